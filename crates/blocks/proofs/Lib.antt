@@ -1,0 +1,9 @@
+pub mod Sound
+pub mod Page
+pub mod Demand
+pub mod Blocks
+pub mod Turns
+pub mod Readable
+pub mod Request
+pub mod Addresses
+pub mod Parts

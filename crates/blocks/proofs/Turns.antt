@@ -1,0 +1,58 @@
+-- A loop over blocks: what is left to read from where it stands is what was to be read at first.
+use mathlib.Core.Path.{_≡_, refl, sym, ap, subst}
+use mathlib.Core.List.{List, _∷_}
+use mathlib.Core.Bool.{Bool, true, false, not, _||_}
+use Prim.Native.Nat.{ℕ, zero, suc, _-_, _≤_, _<_}
+use native.Mathlib.Omega.{arith}
+use native.Mathlib.Numerals.{sub-one}
+use lib.ListN.{length, drop, drop-of-length-le}
+use lib.Seq.{drop-cons}
+use lib.Dec.{eqb}
+use borrow.Author.Tests.{eq-eqb, ne-eqb}
+use native.Mathlib.Decide.{decLe}
+use Rattle.codes.specs.Code.{Got, got, bad, andThen, readTimes, isWhole}
+use Rattle.blocks.specs.Block.{Block, block}
+use Rattle.blocks.specs.Response.{isError, hasError}
+use Rattle.blocks.specs.Walk.{mapGot, standing, Inside, erring}
+use Rattle.blocks.specs.declared.Walk.{Walk}
+use Rattle.blocks.specs.declared.Walk.the-variants.{At}
+
+-- n blocks read from s, with the errors met before them
+abbrev pub ahead : Bool → ℕ → ℕ → List ℕ → Got Bool
+ahead error id n s = mapGot (λ bs. error || hasError bs) (readTimes (block id .read) n s)
+
+or-assoc : (a b c : Bool) → a || (b || c) ≡ (a || b) || c
+or-assoc true b c = refl
+or-assoc false b c = refl
+
+pub or-false : (a : Bool) → a || false ≡ a
+or-false true = refl
+or-false false = refl
+
+module _ (id : ℕ) (s : List ℕ) (error : Bool) where
+  -- a block was read: the next turn
+  pub turn : (x : Block) (t : List ℕ) (left : ℕ) → 0 < left → block id .read s ≡ got x t → ahead (error || isError x) id (left - 1) t ≡ ahead error id left s
+  unfolding hasError
+  turn x t zero h e = absurd (omega arith)
+  turn x t (suc l) h e = rw (sub-one, e) (tails (readTimes (block id .read) l t))
+    where
+      tails : (g : Got (List Block)) → mapGot (λ bs. (error || isError x) || hasError bs) g ≡ mapGot (λ bs. error || hasError bs) (andThen g (λ bs u. got (x ∷ bs) u))
+      tails (got bs u) = ap (λ (y : Bool). got y u) (sym (or-assoc error (isError x) (hasError bs)))
+      tails bad = refl
+
+  -- no block was read: nothing is
+  pub halt : (left : ℕ) → 0 < left → block id .read s ≡ bad → bad ≡ ahead error id left s
+  halt zero h e = absurd (omega arith)
+  halt (suc l) h e = rw e
+
+-- a walk is whole where it stands at the slice's end, if it met the error that it needs
+module _ (s : List ℕ) (w : Walk) (e : ℕ) (b need : Bool) (q : w ≡ At e b) where
+  pub met : Inside s w → not need || b ≡ true → eqb e (length s) ≡ isWhole (erring need (standing s w))
+  met i t = rw (q, t) (go (decLe (length s) e) (subst (λ (x : Walk). Inside s x) q i))
+    where
+      go : Dec (length s ≤ e) → e ≤ length s → eqb e (length s) ≡ isWhole (got b (drop e s))
+      go (yes y) h = rw (drop-of-length-le s y, eq-eqb e (length s) (omega arith))
+      go (no n) h = rw (drop-cons s e 0 (omega arith), ne-eqb e (length s) (λ z. n (omega arith)))
+
+  pub unmet : not need || b ≡ false → false ≡ isWhole (erring need (standing s w))
+  unmet t = rw (q, t)

@@ -1,0 +1,27 @@
+-- A count that a byte holds, of values of at most four bytes, is small.
+use Rattle.codes.proofs.Fixed.{small}
+use Rattle.blocks.proofs.Blocks.{values-size}
+use mathlib.Core.Path.{sym, _∙_, ap₂}
+use Prim.Native.Nat.{ℕ, _*_}
+use native.Mathlib.Omega.{arith}
+use borrow.Author.Needs.{needs}
+use Rattle.blocks.proofs.layout.values_size.Statement.{statement}
+use Rattle.blocks.proofs.layout.values_size.Tie as tie
+
+wide-requires : tie.Need-wide-requires
+wide-requires c κs = search needs
+
+size-of-requires : tie.Need-size-of-requires
+size-of-requires c κs = search needs
+
+mul-result : tie.Need-mul-result
+mul-result c = omega (arith, small (c .before .wide .result) (c .size-of .result) (omega (arith, c .before .wide .ensures)) (c .size-of .ensures .1))
+
+returns : tie.Need-returns
+returns c = (
+  ap₂ (λ (x y : ℕ). x * y) (c .before .wide .ensures) (c .size-of .ensures .0) ∙ sym (values-size (c .before .before .args .f) (c .before .before .args .n)),
+  small (c .before .wide .result) (c .size-of .result) (omega (arith, c .before .wide .ensures)) (c .size-of .ensures .1),
+)
+
+pub values-size-spec : {M : Type 1} → statement M
+values-size-spec = tie.close (tie.spec wide-requires size-of-requires mul-result returns)

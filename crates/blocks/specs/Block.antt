@@ -1,0 +1,62 @@
+-- Document 01, "Request block" and "Response block": what both are made of. A block is high byte first, of at most 240 bytes.
+use mathlib.Core.List.{List}
+use mathlib.Core.Bool.{Bool, cond, _&&_, _||_}
+use Prim.Native.Nat.{ℕ}
+use lib.ListN.{length, replicate}
+use lib.Dec.{leb, ltb, eqb}
+use Rattle.codes.specs.Code.{Code, field, give, byte, check, times, word}
+
+-- "4 to 240 bytes"
+abbrev pub blockLimit : ℕ
+blockLimit = 240
+
+-- a block of values: "format, number of values, values"
+pub record Block : Type 0 where
+  pub format : ℕ
+  pub values : List ℕ
+
+-- "Format sizes: 1 byte for 0x41, 2, 5; 2 for 0x42, 3, 6; 4 for 0x43, 4, 7. No other format": its size is 0
+unfoldable pub formatSize : ℕ → ℕ
+formatSize f =
+    cond (eqb f 0x41 || eqb f 2 || eqb f 5) 1
+    (cond (eqb f 0x42 || eqb f 3 || eqb f 6) 2
+    (cond (eqb f 0x43 || eqb f 4 || eqb f 7) 4
+    0))
+
+-- the same with the error word of a response, 0x44
+unfoldable pub sizeOf : ℕ → ℕ
+sizeOf f = cond (eqb f 0x44) 2 (formatSize f)
+
+-- response: "0x41, 0x42 or 0x43, a count from 1 and the values; 40 00; or 44 01 and one error word"
+abbrev pub valueFits : ℕ → ℕ → Bool
+valueFits f n = (eqb f 0x41 || eqb f 0x42 || eqb f 0x43) && leb 1 n
+
+abbrev pub emptyFits : ℕ → ℕ → Bool
+emptyFits f n = eqb f 0x40 && eqb n 0
+
+abbrev pub errorFits : ℕ → ℕ → Bool
+errorFits f n = eqb f 0x44 && eqb n 1
+
+-- Which format stands with which number of values: by the identifier 02 in a change, by 01, 81 and 82 in a response.
+-- "01 has value blocks only; 81 has value and error blocks; 82 has 40 00 and error blocks"
+unfoldable pub blockFits : ℕ → ℕ → ℕ → Bool
+blockFits id f n =
+    cond (eqb id 2) (ltb 0 (formatSize f))
+    (cond (eqb id 1) (valueFits f n)
+    (cond (eqb id 0x81) (valueFits f n || errorFits f n)
+    (emptyFits f n || errorFits f n)))
+
+-- n values of the format f. "Byte values are followed by nothing, however many"
+unfoldable pub valuesOf : ℕ → ℕ → Code (List ℕ)
+valuesOf f n = times n (word (sizeOf f))
+
+-- the bytes that they take, whatever the values
+unfoldable pub valuesSize : ℕ → ℕ → ℕ
+valuesSize f n = length (valuesOf f n .write (replicate n 0))
+
+unfoldable pub block : ℕ → Code Block
+block id =
+    field (λ b. b .format) byte (λ f.
+    field (λ b. length (b .values)) (check (blockFits id f) byte) (λ n.
+    field (λ b. b .values) (valuesOf f n) (λ vs.
+    give (record { format = f; values = vs }))))

@@ -1,0 +1,6 @@
+pub mod Block
+pub mod Request
+pub mod Response
+pub mod Page
+pub mod Place
+pub mod Walk

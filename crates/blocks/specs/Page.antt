@@ -1,0 +1,63 @@
+-- Document 01, "Request block" and "Response block", in plain words: for each, the values that are valid and the bytes that are
+-- written. The codes of Request.antt and Response.antt say exactly this (proofs/Page.antt).
+use mathlib.Core.Path.{_≡_}
+use mathlib.Core.List.{List, [], _∷_, _++_}
+use mathlib.Core.Bool.{true}
+use Prim.Native.Nat.{ℕ, _≤_, _<_, _/_, _%_, _^_}
+use lib.ListN.{length}
+use Rattle.codes.specs.Code.{AllOf, writeAll, word}
+use Rattle.blocks.specs.declared.reader.Address.{Address}
+use Rattle.blocks.specs.Block.{Block, sizeOf, blockFits}
+use Rattle.blocks.specs.Request.{Request, requestBlocks}
+use Rattle.blocks.specs.Response.{Response, isAnswer, responseBlocks, errorsFit}
+
+-- a number from one limit to another, both included
+abbrev pub From : ℕ → ℕ → ℕ → Type 0
+From low high x = (low ≤ x) × (x ≤ high)
+
+-- which values are valid
+pub record AddressFits (a : Address) : Type 0 where
+  pub attribute : a .attribute < 256
+  pub elements : a .elements < 256
+  pub pnu : a .pnu < 65536
+  pub subindex : a .subindex < 65536
+
+pub record BlockFits (id : ℕ) (b : Block) : Type 0 where
+  pub format : b .format < 256
+  pub number : length (b .values) < 256
+  pub allowed : blockFits id (b .format) (length (b .values)) ≡ true
+  pub values : AllOf (λ x. x < 256 ^ sizeOf (b .format)) (b .values)
+
+pub record RequestFits (r : Request) : Type 0 where
+  pub reference : From 1 255 (r .reference)
+  pub identifier : From 1 2 (r .identifier)
+  pub axis : r .axis < 256
+  pub number : From 1 39 (length (r .addresses))
+  pub addresses : AllOf AddressFits (r .addresses)
+  pub count : length (r .blocks) ≡ requestBlocks (r .identifier) (length (r .addresses))
+  pub blocks : AllOf (BlockFits (r .identifier)) (r .blocks)
+
+pub record ResponseFits (r : Response) : Type 0 where
+  pub reference : From 1 255 (r .reference)
+  pub identifier : isAnswer (r .identifier) ≡ true
+  pub axis : r .axis < 256
+  pub number : From 1 39 (r .count)
+  pub count : length (r .blocks) ≡ responseBlocks (r .identifier) (r .count)
+  pub blocks : AllOf (BlockFits (r .identifier)) (r .blocks)
+  pub errors : errorsFit (r .identifier) (r .blocks) ≡ true
+
+-- which bytes are written
+abbrev pub addressBytes : Address → List ℕ
+addressBytes a =
+    a .attribute ∷ a .elements ∷ a .pnu / 256 % 256 ∷ a .pnu % 256 ∷ a .subindex / 256 % 256 ∷ a .subindex % 256 ∷ []
+
+abbrev pub blockBytes : Block → List ℕ
+blockBytes b = b .format ∷ length (b .values) ∷ writeAll (word (sizeOf (b .format)) .write) (b .values)
+
+abbrev pub requestBytes : Request → List ℕ
+requestBytes r =
+    r .reference ∷ r .identifier ∷ r .axis ∷ length (r .addresses)
+    ∷ writeAll addressBytes (r .addresses) ++ writeAll blockBytes (r .blocks)
+
+abbrev pub responseBytes : Response → List ℕ
+responseBytes r = r .reference ∷ r .identifier ∷ r .axis ∷ r .count ∷ writeAll blockBytes (r .blocks)

@@ -1,0 +1,103 @@
+// Formats, their sizes, and which blocks may stand where.
+ghost use mathlib.Core.Path.{_≡_};
+ghost use Prim.Native.Nat.{_≤_};
+ghost use Rattle.blocks.specs.Block.{formatSize, sizeOf, valueFits, errorFits, emptyFits, blockFits, valuesSize};
+ghost use Rattle.blocks.specs.Request.{requestBlocks};
+ghost use Rattle.blocks.specs.Response.{responseBlocks, isAnswer};
+
+// Bytes of one value, by its format; 0 where there is no such format.
+fn format_size(f: u8) -> usize
+    ensures { λ r. ⌜ (r ≡ formatSize f) × (r ≤ 4) ⌝ }
+{
+    match f {
+        0x41 | 2 | 5 => 1,
+        0x42 | 3 | 6 => 2,
+        0x43 | 4 | 7 => 4,
+        _ => 0,
+    }
+}
+
+pub fn size_of(f: u8) -> usize
+    ensures { λ r. ⌜ (r ≡ sizeOf f) × (r ≤ 4) ⌝ }
+{
+    if f == 0x44 { 2 } else { format_size(f) }
+}
+
+// Bytes of n values of the format f.
+pub fn values_size(f: u8, n: u8) -> usize
+    ensures { λ r. ⌜ (r ≡ valuesSize f n) × (r ≤ 1020) ⌝ }
+{
+    codes::wide(n) * size_of(f)
+}
+
+fn value_fits(f: u8, n: u8) -> bool
+    ensures { λ r. ⌜ r ≡ valueFits f n ⌝ }
+{
+    if f == 0x41 {
+        return 1 <= n;
+    }
+    if f == 0x42 {
+        return 1 <= n;
+    }
+    if f == 0x43 {
+        return 1 <= n;
+    }
+    false
+}
+
+fn error_fits(f: u8, n: u8) -> bool
+    ensures { λ r. ⌜ r ≡ errorFits f n ⌝ }
+{
+    if f == 0x44 { n == 1 } else { false }
+}
+
+fn empty_fits(f: u8, n: u8) -> bool
+    ensures { λ r. ⌜ r ≡ emptyFits f n ⌝ }
+{
+    if f == 0x40 { n == 0 } else { false }
+}
+
+// Whether a block of format f with n values may stand in a change (02) or a response (01, 81, 82).
+pub fn block_fits(id: u8, f: u8, n: u8) -> bool
+    ensures { λ r. ⌜ r ≡ blockFits id f n ⌝ }
+{
+    if id == 2 {
+        return 0 < format_size(f);
+    }
+    if id == 1 {
+        return value_fits(f, n);
+    }
+    let e = error_fits(f, n);
+    if id == 0x81 {
+        codes::either(value_fits(f, n), e)
+    } else {
+        codes::either(empty_fits(f, n), e)
+    }
+}
+
+pub fn request_blocks(id: u8, n: u8) -> usize
+    ensures { λ r. ⌜ r ≡ requestBlocks id n ⌝ }
+{
+    if id == 2 { codes::wide(n) } else { 0 }
+}
+
+pub fn response_blocks(id: u8, n: u8) -> usize
+    ensures { λ r. ⌜ r ≡ responseBlocks id n ⌝ }
+{
+    if id == 2 { 0 } else { codes::wide(n) }
+}
+
+pub fn is_answer(id: u8) -> bool
+    ensures { λ r. ⌜ r ≡ isAnswer id ⌝ }
+{
+    if id == 1 {
+        return true;
+    }
+    if id == 2 {
+        return true;
+    }
+    if id == 0x81 {
+        return true;
+    }
+    id == 0x82
+}

@@ -1,0 +1,197 @@
+// Request and response blocks: which are readable, what stands where in one, and how a response is written.
+ghost use mathlib.Core.Path.{_≡_};
+ghost use Prim.Native.Nat.{_≤_};
+ghost use lib.ListN.{length, drop};
+ghost use Rattle.codes.specs.Code.{isWhole, times, readable};
+ghost use Rattle.blocks.specs.Block.{blockLimit, block};
+ghost use Rattle.blocks.specs.Request.{request};
+ghost use Rattle.blocks.specs.Response.{hasError, response};
+ghost use Rattle.blocks.specs.Place.{headerOf, blockAt, valueAt};
+ghost use Rattle.blocks.specs.Walk.{mapGot, standing, Inside, Walked, erring};
+
+mod layout;
+pub mod reader;
+pub mod writer;
+
+// The most bytes of a block.
+pub const BLOCK_LIMIT: usize = 240;
+
+// The most parameters of a block.
+const MOST_PARAMETERS: u8 = 39;
+
+// The four bytes that a block begins with; `count` is its number of parameters.
+pub struct Header {
+    pub reference: u8,
+    pub identifier: u8,
+    pub axis: u8,
+    pub count: u8,
+}
+
+// How a block of values begins, and where the next one does.
+pub struct Head {
+    pub format: u8,
+    pub count: u8,
+    pub next: usize,
+}
+
+pub enum BlockAt {
+    Stands(Head),
+    Nothing,
+}
+
+// Where a walk over blocks stands, and whether it met an error block; or that the blocks are not readable.
+enum Walk {
+    At(usize, bool),
+    Bad,
+}
+
+pub fn header_of(s: &[u8]) -> Header
+    ensures { λ r. ⌜ r ≡ headerOf (now (s .entry)) ⌝ }
+{
+    Header {
+        reference: codes::byte_at(s, 0),
+        identifier: codes::byte_at(s, 1),
+        axis: codes::byte_at(s, 2),
+        count: codes::byte_at(s, 3),
+    }
+}
+
+// The block of values at `at`: of a change where `id` is 02, of a response where it is 01, 81 or 82.
+pub fn block_at(s: &[u8], at: usize, id: u8) -> BlockAt
+    ensures { λ r. ⌜ r ≡ blockAt id (now (s .entry)) at ⌝ }
+{
+    if s.len() < 2 {
+        return BlockAt::Nothing;
+    }
+    if s.len() - 2 < at {
+        return BlockAt::Nothing;
+    }
+    let f = s[at];
+    let n = s[at + 1];
+    if layout::block_fits(id, f, n) {
+        let bytes = layout::values_size(f, n);
+        if bytes <= s.len() - 2 - at {
+            let h = Head {
+                format: f,
+                count: n,
+                next: at + 2 + bytes,
+            };
+            BlockAt::Stands(h)
+        } else {
+            BlockAt::Nothing
+        }
+    } else {
+        BlockAt::Nothing
+    }
+}
+
+// The j-th value of the block of a change that stands at `at`.
+pub fn value_at(s: &[u8], at: usize, j: usize) -> u32
+    ensures { λ r. ⌜ r ≡ valueAt (now (s .entry)) at j ⌝ }
+{
+    let b = block_at(s, at, 2);
+    let BlockAt::Stands(h) = b else {
+        return 0;
+    };
+    let size = layout::size_of(h.format);
+    if j < codes::wide(h.count) {
+        codes::number_at(s, at + 2 + j * size, size)
+    } else {
+        0
+    }
+}
+
+// Where n blocks that start at `from` end.
+fn blocks_end(s: &[u8], from: usize, n: usize, id: u8) -> Walk
+    requires { ⌜ from ≤ length (now s) ⌝ }
+    ensures { λ r. ⌜ Walked (now (s .entry)) (mapGot hasError (times n (block id) .read (drop from (now (s .entry))))) r ⌝ }
+{
+    let mut at = from;
+    let mut left = n;
+    let mut error = false;
+    while 0 < left {
+        let b = block_at(s, at, id);
+        let BlockAt::Stands(h) = b else {
+            return Walk::Bad;
+        };
+        at = h.next;
+        error = codes::either(error, h.format == 0x44);
+        left -= 1;
+    }
+    Walk::At(at, error)
+}
+
+// Whether a walk came to the end of the slice, and met an error where one is needed.
+fn whole(s: &[u8], w: Walk, need: bool) -> bool
+    requires { ⌜ Inside (now s) w ⌝ }
+    ensures { λ r. ⌜ r ≡ isWhole (erring need (standing (now (s .entry)) w)) ⌝ }
+{
+    let Walk::At(e, error) = w else {
+        return false;
+    };
+    if codes::either(!need, error) {
+        e == s.len()
+    } else {
+        false
+    }
+}
+
+// Whether `block` is a readable request.
+pub fn request_readable(block: &[u8]) -> bool
+    ensures { λ r. ⌜ r ≡ readable blockLimit request (now (block .entry)) ⌝ }
+{
+    if BLOCK_LIMIT < block.len() {
+        return false;
+    }
+    if block.len() < 4 {
+        return false;
+    }
+    let id = block[1];
+    let n = block[3];
+    if !codes::between(1, block[0], 255) {
+        return false;
+    }
+    if !codes::between(1, id, 2) {
+        return false;
+    }
+    if !codes::between(1, n, MOST_PARAMETERS) {
+        return false;
+    }
+    let from = 4 + codes::wide(n) * 6;
+    if block.len() < from {
+        return false;
+    }
+    whole(
+        block,
+        blocks_end(block, from, layout::request_blocks(id, n), id),
+        false,
+    )
+}
+
+// Whether `block` is a readable response.
+pub fn response_readable(block: &[u8]) -> bool
+    ensures { λ r. ⌜ r ≡ readable blockLimit response (now (block .entry)) ⌝ }
+{
+    if BLOCK_LIMIT < block.len() {
+        return false;
+    }
+    if block.len() < 4 {
+        return false;
+    }
+    let id = block[1];
+    let n = block[3];
+    if !codes::between(1, block[0], 255) {
+        return false;
+    }
+    if !layout::is_answer(id) {
+        return false;
+    }
+    if !codes::between(1, n, MOST_PARAMETERS) {
+        return false;
+    }
+    whole(
+        block,
+        blocks_end(block, 4, layout::response_blocks(id, n), id),
+        0x81 <= id,
+    )
+}

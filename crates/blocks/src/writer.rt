@@ -1,0 +1,76 @@
+// The parts of a response, written at a place of a slice; nothing is written of a part that does not fit.
+ghost use mathlib.Core.Path.{_≡_};
+ghost use mathlib.Core.List.{[], _∷_};
+ghost use Prim.Native.Nat.{_+_, _*_, _≤_};
+ghost use lib.ListN.{length};
+ghost use Rattle.codes.specs.Code.{word, writeAll};
+ghost use Rattle.codes.specs.Number.{put};
+ghost use Rattle.blocks.specs.Block.{valuesSize};
+ghost use Rattle.blocks.specs.Place.{headerBytes, putBlock};
+use super::Header;
+
+pub fn put_header(out: &mut [u8], h: Header)
+    ensures { λ r. ⌜ now (out .exit) ≡ put (now (out .entry)) 0 (headerBytes h) ⌝ }
+{
+    if out.len() < 4 {
+        return;
+    }
+    out[0] = h.reference;
+    out[1] = h.identifier;
+    out[2] = h.axis;
+    out[3] = h.count;
+}
+
+// Bytes of a block of n values of the format f.
+pub fn block_size(f: u8, n: u8) -> usize
+    ensures { λ r. ⌜ r ≡ 2 + valuesSize f n ⌝ }
+{
+    2 + super::layout::values_size(f, n)
+}
+
+// Writes each value in `size` bytes from `at` on, where they all fit.
+fn put_values(out: &mut [u8], at: usize, size: usize, values: &[u32])
+    requires { ⌜ at + length (now values) * size ≤ length (now out) ⌝ }
+    ensures { λ r. ⌜ now (out .exit) ≡ put (now (out .entry)) at (writeAll (word size .write) (now (values .entry))) ⌝ }
+{
+    let mut j: usize = 0;
+    while j < values.len() {
+        codes::put_number(out, at + j * size, size, values[j]);
+        j += 1;
+    }
+}
+
+// A block of values of one format.
+pub fn put_block(out: &mut [u8], at: usize, f: u8, values: &[u32])
+    ensures { λ r. ⌜ now (out .exit) ≡ putBlock (now (out .entry)) at (record { format = f; values = now (values .entry) }) ⌝ }
+{
+    if 255 < values.len() {
+        return;
+    }
+    let n = values.len() as u8;
+    let bytes = block_size(f, n);
+    if out.len() < bytes {
+        return;
+    }
+    if out.len() - bytes < at {
+        return;
+    }
+    out[at] = f;
+    out[at + 1] = n;
+    put_values(out, at + 2, super::layout::size_of(f), values);
+}
+
+// `40 00`: a parameter of a change that did not fail.
+pub fn put_empty(out: &mut [u8], at: usize)
+    ensures { λ r. ⌜ now (out .exit) ≡ put (now (out .entry)) at (0x40 ∷ 0 ∷ []) ⌝ }
+{
+    put_block(out, at, 0x40, &[]);
+}
+
+// `44 01` and the error word.
+pub fn put_error(out: &mut [u8], at: usize, error: u16)
+    ensures { λ r. ⌜ now (out .exit) ≡ put (now (out .entry)) at (0x44 ∷ 1 ∷ word 2 .write error) ⌝ }
+{
+    let values = [error as u32];
+    put_block(out, at, 0x44, &values);
+}

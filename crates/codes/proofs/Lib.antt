@@ -1,0 +1,7 @@
+pub mod Sound
+pub mod Fixed
+pub mod Demand
+pub mod Items
+pub mod Put
+pub mod Number
+pub mod Signed
