@@ -1,0 +1,5 @@
+pub mod Signed
+pub mod Find
+pub mod Proper
+pub mod Laws
+pub mod Worked
