@@ -14,7 +14,7 @@ use borrow.Author.Tests.{lt-ltb, le-ltb, leb-false}
 use mir.Syntax.{Width}
 use mir.Val.{Fits, SFits, toZ, ofZ, bits, hbits}
 use mir.Facts.{toZ-pos}
-use mir.ValLaws.{toZ-ofZ, ofZ-fits, pow-bits}
+use mir.ValLaws.{toZ-ofZ, toZ-fits, ofZ-fits, pow-bits}
 use Rattle.codes.specs.Code.{word}
 use Rattle.codes.specs.Number.{numberAt, put, signedOf, bitsOf}
 use Rattle.codes.proofs.Number.{number-put}
@@ -61,6 +61,16 @@ module _ (n : ℕ) (w : Width) (wide : 2 ^ bits w ≡ 256 ^ n) where
 
   pub signed-low : (x : ℕ) → x < 2 ^ hbits w → toZ w x ≡ signedOf n x
   signed-low x h = rw (toZ-pos w h, half, lt-ltb x (2 ^ hbits w) h)
+
+  pub signed-is : (x : ℕ) → x < 2 ^ bits w → toZ w x ≡ signedOf n x
+  signed-is x k = go (decLt x (2 ^ hbits w))
+    where
+      go : Dec (x < 2 ^ hbits w) → toZ w x ≡ signedOf n x
+      go (yes h) = signed-low x h
+      go (no h) = rw (half, le-ltb x (2 ^ hbits w) (omega arith), ← wide, below x (2 ^ bits w) k) refl
+
+  pub signed-fits : (x : ℕ) → x < 2 ^ bits w → SFits w (signedOf n x)
+  signed-fits x k = subst (SFits w) (signed-is x k) (toZ-fits w x (record { fits = k }))
 
   -- the machine has a negative number from the complement m of its bytes x
   module _ (x : ℕ) (h : 2 ^ hbits w ≤ x) (k : x < 2 ^ bits w) where
