@@ -1,7 +1,7 @@
 -- Where a block of values stands, ends and holds its values.
 use mathlib.Core.Path.{_≡_, refl, sym, _∙_, ap}
 use mathlib.Core.List.{List, _∷_, _++_, append-nil}
-use mathlib.Core.Bool.{Bool, true, false, cond, _||_}
+use mathlib.Core.Bool.{Bool, true, false, cond}
 use Prim.Native.Nat.{ℕ, suc, _+_, _-_, _*_, _≤_, _<_}
 use native.Mathlib.Omega.{arith}
 use native.Mathlib.Decide.{decLe}
@@ -18,7 +18,7 @@ use Rattle.codes.proofs.Number.{number-is}
 use Rattle.codes.proofs.Put.{word-length}
 use Rattle.blocks.specs.declared.Head.{Head}
 use Rattle.blocks.specs.declared.BlockAt.the-variants.{Stands, Nothing}
-use Rattle.blocks.specs.Block.{Block, formatSize, sizeOf, blockFits, valuesOf, valuesSize, block}
+use Rattle.blocks.specs.Block.{Block, oneByte, twoBytes, fourBytes, formatSize, sizeOf, blockFits, valuesOf, valuesSize, block}
 use Rattle.blocks.specs.Place.{headOf, blockAt, valueAt}
 use Rattle.blocks.proofs.Sound.{block-sound, values-sound, values-count}
 
@@ -31,9 +31,9 @@ pub size-small : (f : ℕ) → sizeOf f ≤ 4
 unfolding sizeOf formatSize
 size-small f =
     at-most (eqb f 0x44) 2 _ (lit≤ tt)
-    (at-most (eqb f 0x41 || eqb f 2 || eqb f 5) 1 _ (lit≤ tt)
-    (at-most (eqb f 0x42 || eqb f 3 || eqb f 6) 2 _ (lit≤ tt)
-    (at-most (eqb f 0x43 || eqb f 4 || eqb f 7) 4 0 (lit≤ tt) (lit≤ tt))))
+    (at-most (oneByte f) 1 _ (lit≤ tt)
+    (at-most (twoBytes f) 2 _ (lit≤ tt)
+    (at-most (fourBytes f) 4 0 (lit≤ tt) (lit≤ tt))))
 
 -- the size of n values is n times that of one
 pub values-size : (f n : ℕ) → valuesSize f n ≡ n * sizeOf f

@@ -16,12 +16,17 @@ pub record Block : Type 0 where
   pub values : List ℕ
 
 -- "Format sizes: 1 byte for 0x41, 2, 5; 2 for 0x42, 3, 6; 4 for 0x43, 4, 7. No other format": its size is 0
+abbrev pub oneByte : ℕ → Bool
+oneByte f = eqb f 0x41 || eqb f 2 || eqb f 5
+
+abbrev pub twoBytes : ℕ → Bool
+twoBytes f = eqb f 0x42 || eqb f 3 || eqb f 6
+
+abbrev pub fourBytes : ℕ → Bool
+fourBytes f = eqb f 0x43 || eqb f 4 || eqb f 7
+
 unfoldable pub formatSize : ℕ → ℕ
-formatSize f =
-    cond (eqb f 0x41 || eqb f 2 || eqb f 5) 1
-    (cond (eqb f 0x42 || eqb f 3 || eqb f 6) 2
-    (cond (eqb f 0x43 || eqb f 4 || eqb f 7) 4
-    0))
+formatSize f = cond (oneByte f) 1 (cond (twoBytes f) 2 (cond (fourBytes f) 4 0))
 
 -- the same with the error word of a response, 0x44
 unfoldable pub sizeOf : ℕ → ℕ
