@@ -1,0 +1,49 @@
+-- The place of an element of 16 bits' index fits.
+use Rattle.catalogue.specs.Element.{putElement}
+use Rattle.catalogue.proofs.Elements.{index-small}
+use Rattle.codes.specs.Code.{word}
+use Rattle.codes.specs.Number.{put}
+use mathlib.Core.Path.{_∙_, ap}
+use Prim.Native.Nat.{ℕ, _+_, _*_}
+use denote.Ref.{now}
+use native.Mathlib.Omega.{arith}
+use borrow.Author.Needs.{needs}
+use Rattle.catalogue.proofs.put_element.Statement.{statement}
+use Rattle.catalogue.proofs.put_element.Tie as tie
+
+size-of-requires : tie.Need-size-of-requires
+size-of-requires c κs = search needs
+
+cast-put-number : tie.Need-cast-put-number
+cast-put-number c = search needs
+
+mul-put-number : tie.Need-mul-put-number
+mul-put-number c = omega (arith, index-small (c .before .before .before .before .args .i) (c .before .before .size-of .result) (c .before .before .before .before .args .r .kind) (omega arith) (c .before .before .size-of .ensures))
+
+add-put-number : tie.Need-add-put-number
+add-put-number c = omega (arith, index-small (c .before .before .before .before .args .i) (c .before .before .size-of .result) (c .before .before .before .before .args .r .kind) (omega arith) (c .before .before .size-of .ensures))
+
+put-number-requires : tie.Need-put-number-requires
+put-number-requires c κs = search needs
+
+same-length : tie.Need-same-length
+same-length c = search needs
+
+returns : tie.Need-returns
+unfolding putElement
+returns c =
+    let a = c .before .before .before .before .before .before .before .args in
+    c .before .before .put-number .ensures
+    ∙ ap (λ (z : ℕ). put (now (a .part)) (a .r .offset + a .i * z) (word z .write (a .x))) (c .before .before .before .before .before .size-of .ensures)
+
+pub put-element-spec : {M : Type 1} → statement M
+put-element-spec =
+    tie.close
+    (tie.spec
+    size-of-requires
+    cast-put-number
+    mul-put-number
+    add-put-number
+    put-number-requires
+    same-length
+    returns)
