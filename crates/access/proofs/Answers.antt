@@ -1,0 +1,411 @@
+-- Every answer to a request is a response of document 01, with the request's header, and takes at most 240 bytes.
+use mathlib.Core.Path.{_≡_, refl, sym, ap, _∙_}
+use mathlib.Core.Bool.{Bool, true, false, cond, not, _||_, or-false}
+use mathlib.Core.List.{List, [], _∷_, List·Memᴰ}
+use mathlib.Core.Logic.{_⊎_, inl, inr}
+use mathlib.Mathlib.Data.Bool.Basic.{or-eq-false-eq-eq-false-and-eq-false as or-eq-false-iff}
+use Prim.Native.Nat.{ℕ, zero, suc, _+_, _*_, _^_, _≤_, _<_}
+use native.Mathlib.Nat.{zero-add}
+use native.Mathlib.Omega.{arith}
+use lib.Dec.{eqb, leb, ltb, lit≤, lit<}
+use lib.ListN.{length, length-append}
+use borrow.Author.Tests.{leb-true, le-leb, lt-ltb, ltb-false, eqb-true, eqb-false, not-false}
+use borrow.Table.Steps.{cases}
+use Rattle.codes.specs.Code.{AllOf, writeAll}
+use Rattle.codes.specs.Number.{numberAt}
+use Rattle.blocks.specs.Block.{Block, blockLimit, formatSize, sizeOf, blockFits, valuesOf, valuesSize}
+use Rattle.blocks.specs.Request.{Request, requestBlocks}
+use Rattle.blocks.specs.Response.{Response, isAnswer, responseBlocks, isError, hasError, errorsFit, response}
+use Rattle.blocks.specs.Page.{AddressFits, BlockFits, RequestFits, ResponseFits, blockBytes, responseBytes}
+use Rattle.blocks.specs.declared.reader.Address.{Address}
+use Rattle.blocks.proofs.Parts.{block-written}
+use Rattle.blocks.proofs.Page.{response-bytes}
+use Rattle.blocks.proofs.Demand.{responses}
+use Rattle.catalogue.specs.declared.Kind.{Kind}
+use Rattle.catalogue.specs.declared.Kind.the-variants.{U8, U16, I16, I32}
+use Rattle.catalogue.specs.declared.Row.{Row}
+use Rattle.catalogue.specs.declared.Found.{Found}
+use Rattle.catalogue.specs.declared.Found.the-variants.{At, Nothing}
+use Rattle.catalogue.specs.Table.{rows, findOf, sizeOf as elementSize}
+use Rattle.catalogue.specs.Element.{sizeCode, typeCode, inside, putElement}
+use Rattle.catalogue.proofs.Elements.{element-small}
+use Rattle.catalogue.proofs.Rows.{found-row, row-some}
+use Rattle.access.specs.declared.Checked.{Checked}
+use Rattle.access.specs.declared.Checked.the-variants.{Elements, Error}
+use Rattle.access.specs.Address.{ofSimple, ofArray, ofRow, ofFound, checked, errorBlock, emptyBlock}
+use Rattle.access.specs.Read.{elementsFrom, sizeOfBlock, answerTo, readBlock, readBlocks}
+use Rattle.access.specs.Change.{Changed, refused, storeFrom, ofElements, ofChecked, changeOne, changeAll}
+use Rattle.access.specs.Work.{Worked, answerOf, worked}
+use Rattle.access.specs.Laws.{SameHeader, AnswersHeader, AnswerFits, AnswerShort, AnswerReadable, AnswerAxis, blocksOf, OneEach, AnswersBlocks, AnswersIdentifier, FailureAnswered}
+
+-- what holds of both sides of a test
+pub pick : {A : Type 0} (P : A → Type 0) (b : Bool) {x y : A} → (b ≡ true → P x) → (b ≡ false → P y) → P (cond b x y)
+pick P true f g = f refl
+pick P false f g = g refl
+
+-- What the checks of an address leave: elements of a row of the table, or an error word.
+pub record Named (a : Address) (r : Row) (n : ℕ) : Type 0 where
+  pub found : findOf (a .pnu) ≡ At r
+  pub row : List·Memᴰ r rows
+  pub some : 1 ≤ n
+  pub few : n ≤ 255
+  pub room : a .subindex + n ≤ r .count
+
+abbrev CheckedFits : Address → Checked → Type 0
+CheckedFits a (Elements r n) = Named a r n
+CheckedFits a (Error e) = e < 65536
+
+module _ (a : Address) (f : AddressFits a) where
+  module _ (r : Row) (e : findOf (a .pnu) ≡ At r) where
+    named : (n : ℕ) → 1 ≤ n → n ≤ 255 → a .subindex + n ≤ r .count → CheckedFits a (Elements r n)
+    named n some few room = record { found = e; row = found-row (a .pnu) r e; some = some; few = few; room = room }
+
+    simple-fits : CheckedFits a (ofSimple a r)
+    simple-fits =
+        pick (CheckedFits a) (not (eqb (a .subindex) 0) || ltb 1 (a .elements)) (λ t. lit< tt)
+        (λ t.
+        let first = not-false (eqb (a .subindex) 0) (or-eq-false-iff (not (eqb (a .subindex) 0)) (ltb 1 (a .elements)) .0 t .0) in
+        named 1 (lit≤ tt) (lit≤ tt) (omega (arith, eqb-true (a .subindex) 0 first, row-some r (found-row (a .pnu) r e))))
+
+    array-fits : CheckedFits a (ofArray a r)
+    array-fits =
+        pick (CheckedFits a) (eqb (a .elements) 0) (λ t. lit< tt)
+        (λ t. pick (CheckedFits a) (ltb (r .count) (a .subindex + a .elements)) (λ u. lit< tt)
+        (λ u.
+        let nonzero = eqb-false (a .elements) 0 t in
+        named (a .elements) (omega arith) (omega (arith, f .elements)) (ltb-false (r .count) (a .subindex + a .elements) u)))
+
+    row-fits : CheckedFits a (ofRow a r)
+    row-fits =
+        pick (CheckedFits a) (eqb (a .attribute) 0x20) (λ t. lit< tt)
+        (λ t. pick (CheckedFits a) (eqb (a .attribute) 0x30) (λ u. lit< tt)
+        (λ u. pick (CheckedFits a) (not (eqb (a .attribute) 0x10)) (λ v. lit< tt)
+        (λ v. pick (CheckedFits a) (r .simple) (λ w. simple-fits) (λ w. array-fits))))
+
+  checked-fits : CheckedFits a (checked a)
+  unfolding checked
+  checked-fits = go (findOf (a .pnu)) refl
+    where
+      go : (found : Found) → findOf (a .pnu) ≡ found → CheckedFits a (ofFound a found)
+      go Nothing e = lit< tt
+      go (At r) e = row-fits r e
+
+-- a format that a parameter's values may have is as wide as its elements
+size-same : (k : Kind) → sizeOf (sizeCode k) ≡ elementSize k
+unfolding sizeOf formatSize
+size-same U8 = refl
+size-same U16 = refl
+size-same I16 = refl
+size-same I32 = refl
+
+type-same : (k : Kind) → sizeOf (typeCode k) ≡ elementSize k
+unfolding sizeOf formatSize
+type-same U8 = refl
+type-same U16 = refl
+type-same I16 = refl
+type-same I32 = refl
+
+format-same : (k : Kind) (f : ℕ) → eqb f (sizeCode k) || eqb f (typeCode k) ≡ true → sizeOf f ≡ elementSize k
+format-same k f e =
+    cases (eqb f (sizeCode k))
+    (λ t. ap sizeOf (eqb-true f (sizeCode k) t) ∙ size-same k)
+    (λ t. ap sizeOf (eqb-true f (typeCode k) (rw t at e)) ∙ type-same k)
+
+-- A change of one address is refused, or its values are stored one by one: then these are as many and as wide as the elements.
+pub record Stores (a : Address) (b : Block) (r : Row) (n : ℕ) : Type 0 where
+  pub passed : checked a ≡ Elements r n
+  pub named : Named a r n
+  pub writable : r .writable ≡ true
+  pub wide : sizeOf (b .format) ≡ elementSize (r .kind)
+  pub count : length (b .values) ≡ n
+
+module _ (a : Address) (f : AddressFits a) (b : Block) (p : List ℕ) (P : Changed → Type 0)
+    (refuses : (e : ℕ) → e < 65536 → P (refused e p))
+    (stores : (r : Row) (n : ℕ) → Stores a b r n → P (storeFrom r (a .subindex) (b .values) p)) where
+  elements-cases : (r : Row) (n : ℕ) → checked a ≡ Elements r n → Named a r n → P (ofElements a b p r n)
+  elements-cases r n s h =
+      let known = eqb (b .format) (sizeCode (r .kind)) || eqb (b .format) (typeCode (r .kind)) in
+      pick P (not (r .writable)) (λ t. refuses 0x01 (lit< tt))
+      (λ t. pick P (not known) (λ u. refuses 0x05 (lit< tt))
+      (λ u. pick P (not (eqb (length (b .values)) n)) (λ v. refuses 0x18 (lit< tt))
+      (λ v.
+      stores r n
+      (record {
+        passed = s;
+        named = h;
+        writable = not-false (r .writable) t;
+        wide = format-same (r .kind) (b .format) (not-false known u);
+        count = eqb-true (length (b .values)) n (not-false (eqb (length (b .values)) n) v);
+      }))))
+
+  pub change-cases : P (changeOne a b p)
+  unfolding changeOne
+  change-cases = go (checked a) refl (checked-fits a f)
+    where
+      go : (c : Checked) → checked a ≡ c → CheckedFits a c → P (ofChecked a b p c)
+      go (Error e) s small = refuses e small
+      go (Elements r n) s h = elements-cases r n s h
+
+-- An error word and `40 00`: they fit where they may stand, and take at most 4 bytes.
+error-fits : (id e : ℕ) → blockFits id 0x44 1 ≡ true → e < 65536 → BlockFits id (errorBlock e)
+unfolding sizeOf
+error-fits id e allowed small = record { format = lit< tt; number = lit< tt; allowed = allowed; values = (small, tt) }
+
+error-size : (e : ℕ) → sizeOfBlock (errorBlock e) ≡ 4
+unfolding valuesSize valuesOf sizeOf
+error-size e = refl
+
+empty-size : sizeOfBlock emptyBlock ≡ 2
+unfolding valuesSize valuesOf sizeOf formatSize
+empty-size = refl
+
+-- the blocks that stand after `used` bytes of a response, one for each of n addresses
+record Run (id used n : ℕ) (bs : List Block) : Type 0 where
+  fits : AllOf (BlockFits id) bs
+  count : length bs ≡ n
+  short : used + length (writeAll blockBytes bs) ≤ blockLimit
+
+block-size : (b : Block) → length (blockBytes b) ≡ sizeOfBlock b
+block-size b = sym (block-written (b .format) (length (b .values)) (b .values) refl)
+
+one-more : (id used n : ℕ) (b : Block) (bs : List Block) → BlockFits id b → Run id (used + sizeOfBlock b) n bs → Run id used (suc n) (b ∷ bs)
+one-more id used n b bs f run =
+    record {
+      fits = (f, run .fits);
+      count = ap suc (run .count);
+      short = omega (arith, run .short, block-size b, length-append (blockBytes b) (writeAll blockBytes bs));
+    }
+
+-- A request (01).
+-- values of a row's elements, in a block with its size code
+code-small : (k : Kind) → sizeCode k < 256
+code-small U8 = lit< tt
+code-small U16 = lit< tt
+code-small I16 = lit< tt
+code-small I32 = lit< tt
+
+code-allowed : (k : Kind) (n : ℕ) → 1 ≤ n → blockFits 0x81 (sizeCode k) n ≡ true
+unfolding blockFits
+code-allowed U8 n h = rw (le-leb 1 n h)
+code-allowed U16 n h = rw (le-leb 1 n h)
+code-allowed I16 n h = rw (le-leb 1 n h)
+code-allowed I32 n h = rw (le-leb 1 n h)
+
+elements-count : (r : Row) (i n : ℕ) (p : List ℕ) → length (elementsFrom r i n p) ≡ n
+elements-count r i zero p = refl
+elements-count r i (suc n) p = ap suc (elements-count r (i + 1) n p)
+
+elements-small : (r : Row) (i n : ℕ) (p : List ℕ) → AllOf (λ x. x < 256 ^ sizeOf (sizeCode (r .kind))) (elementsFrom r i n p)
+elements-small r i zero p = tt
+elements-small r i (suc n) p = (rw (size-same (r .kind)) (element-small r i p), elements-small r (i + 1) n p)
+
+values-fit : (r : Row) (i n : ℕ) (p : List ℕ) → 1 ≤ n → n ≤ 255 → BlockFits 0x81 (record { format = sizeCode (r .kind); values = elementsFrom r i n p })
+values-fit r i n p some few =
+    let count = elements-count r i n p in
+    record {
+      format = code-small (r .kind);
+      number = omega arith;
+      allowed = code-allowed (r .kind) _ (omega arith);
+      values = elements-small r i n p;
+    }
+
+-- the block for one address, with room for it and the addresses after it
+module _ (p : List ℕ) (used after : ℕ) (room : used + 4 + 4 * after ≤ blockLimit) where
+  abbrev Leaves : Block → Type 0
+  Leaves b = BlockFits 0x81 b × (used + sizeOfBlock b + 4 * after ≤ blockLimit)
+
+  leaves-error : (e : ℕ) → e < 65536 → Leaves (errorBlock e)
+  unfolding blockFits
+  leaves-error e small = (error-fits 0x81 e refl small, rw (error-size e) room)
+
+  read-one : (a : Address) → AddressFits a → Leaves (readBlock p used after a)
+  unfolding readBlock
+  read-one a f = go (checked a) (checked-fits a f)
+    where
+      go : (c : Checked) → CheckedFits a c → Leaves (answerTo p used after a c)
+      go (Error e) small = leaves-error e small
+      go (Elements r n) h =
+          let b : Block = record { format = sizeCode (r .kind); values = elementsFrom r (a .subindex) n p } in
+          let size = used + sizeOfBlock b + 4 * after in
+          pick Leaves (leb size blockLimit)
+          (λ t. (values-fit r (a .subindex) n p (h .some) (h .few), leb-true size blockLimit t))
+          (λ t. leaves-error 0x15 (lit< tt))
+
+read-all : (p : List ℕ) (used : ℕ) (them : List Address) → AllOf AddressFits them → used + 4 * length them ≤ blockLimit → Run 0x81 used (length them) (readBlocks p used them)
+read-all p used [] f room = record { fits = tt; count = refl; short = omega arith }
+read-all p used (a ∷ more) f room =
+    let b = readBlock p used (length more) a in
+    let one = read-one p used (length more) (omega arith) a (f .0) in
+    one-more 0x81 used (length more) b _ (one .0) (read-all p (used + sizeOfBlock b) more (f .1) (one .1))
+
+-- A change (02): an error word or `40 00` for each address.
+abbrev Small : Block → Type 0
+Small b = BlockFits 0x82 b × (sizeOfBlock b ≤ 4)
+
+small-error : (e : ℕ) → e < 65536 → Small (errorBlock e)
+unfolding blockFits
+small-error e small = (error-fits 0x82 e refl small, omega (arith, error-size e))
+
+small-empty : Small emptyBlock
+unfolding blockFits
+small-empty = (record { format = lit< tt; number = lit< tt; allowed = refl; values = tt }, omega (arith, empty-size))
+
+abbrev AnswerSmall : Changed → Type 0
+AnswerSmall c = Small (c .answer)
+
+store-answer : (r : Row) (i : ℕ) (xs p : List ℕ) → AnswerSmall (storeFrom r i xs p)
+store-answer r i [] p = small-empty
+store-answer r i (x ∷ xs) p =
+    pick AnswerSmall (inside r x) (λ t. store-answer r (i + 1) xs (putElement r i x p)) (λ t. small-error 0x02 (lit< tt))
+
+change-one : (a : Address) → AddressFits a → (b : Block) (p : List ℕ) → AnswerSmall (changeOne a b p)
+change-one a f b p = change-cases a f b p AnswerSmall small-error (λ r n s. store-answer r (a .subindex) (b .values) p)
+
+change-all : (them : List Address) (bs : List Block) (p : List ℕ) (used : ℕ) → AllOf AddressFits them → length bs ≡ length them → used + 4 * length them ≤ blockLimit → Run 0x82 used (length them) (changeAll them bs p .answers)
+change-all [] bs p used f e room = record { fits = tt; count = refl; short = omega arith }
+change-all (a ∷ more) [] p used f e room = absurd (omega arith)
+change-all (a ∷ more) (b ∷ bs) p used f e room =
+    let c = changeOne a b p in
+    let one = change-one a (f .0) b p in
+    one-more 0x82 used (length more) (c .answer) _ (one .0)
+    (change-all more bs (c .part) (used + sizeOfBlock (c .answer)) (f .1) (omega arith) (omega (arith, one .1)))
+
+-- where no block is an error, all are value blocks
+value-block : (b : Block) → BlockFits 0x81 b → isError b ≡ false → BlockFits 1 b
+unfolding blockFits
+value-block b f e =
+    record {
+      format = f .format;
+      number = f .number;
+      allowed = rw (e, or-false) at (f .allowed);
+      values = f .values;
+    }
+
+no-error : (bs : List Block) → AllOf (BlockFits 0x81) bs → hasError bs ≡ false → AllOf (BlockFits 1) bs
+unfolding hasError
+no-error [] f e = tt
+no-error (b ∷ bs) f e =
+    let none = or-eq-false-iff (isError b) (hasError bs) .0 e in
+    (value-block b (f .0) (none .0), no-error bs (f .1) (none .1))
+
+-- The answer: its values and its bytes.
+record Answers (a : Response) : Type 0 where
+  fits : ResponseFits a
+  short : length (responseBytes a) ≤ blockLimit
+
+module _ (r : Request) (f : RequestFits r) where
+  answers : (id : ℕ) (bs : List Block) → isAnswer id ≡ true → errorsFit id bs ≡ true → Run id 4 (responseBlocks id (length (r .addresses))) bs → Answers (answerOf r id bs)
+  answers id bs known errors run =
+      record {
+        fits =
+            record {
+              reference = f .reference;
+              identifier = known;
+              axis = f .axis;
+              number = f .number;
+              count = run .count;
+              blocks = run .fits;
+              errors = errors;
+            };
+        short = omega (arith, run .short);
+      }
+
+  read-answers : (bs : List Block) → Run 0x81 4 (length (r .addresses)) bs → Answers (answerOf r (cond (hasError bs) 0x81 0x01) bs)
+  unfolding errorsFit responseBlocks
+  read-answers bs run =
+      pick (λ id. Answers (answerOf r id bs)) (hasError bs)
+      (λ e. answers 0x81 bs refl e run)
+      (λ e. answers 0x01 bs refl refl (record { fits = no-error bs (run .fits) e; count = run .count; short = run .short }))
+
+  change-answers : (bs : List Block) → Run 0x82 4 (length (r .addresses)) bs → Answers (cond (hasError bs) (answerOf r 0x82 bs) (answerOf r 0x02 []))
+  unfolding errorsFit responseBlocks
+  change-answers bs run =
+      pick Answers (hasError bs)
+      (λ e. answers 0x82 bs refl e run)
+      (λ e. answers 0x02 [] refl refl (record { fits = tt; count = refl; short = lit≤ tt }))
+
+  -- what is not 01 is 02
+  pub is-change : eqb (r .identifier) 1 ≡ false → r .identifier ≡ 2
+  is-change e = let n = eqb-false (r .identifier) 1 e in omega (arith, f .identifier .0, f .identifier .1)
+
+  -- and has a block for each address
+  block-each : eqb (r .identifier) 1 ≡ false → length (r .blocks) ≡ length (r .addresses)
+  unfolding requestBlocks
+  block-each e = f .count ∙ rw (is-change e)
+
+  room : 4 + 4 * length (r .addresses) ≤ blockLimit
+  room = omega (arith, f .number .1)
+
+  reads : (p : List ℕ) → Run 0x81 4 (length (r .addresses)) (readBlocks p 4 (r .addresses))
+  reads p = read-all p 4 (r .addresses) (f .addresses) room
+
+  changes : (p : List ℕ) → eqb (r .identifier) 1 ≡ false → Run 0x82 4 (length (r .addresses)) (changeAll (r .addresses) (r .blocks) p .answers)
+  changes p e = change-all (r .addresses) (r .blocks) p 4 (f .addresses) (block-each e) room
+
+  all-answers : (p : List ℕ) → Answers (worked r p .response)
+  unfolding worked
+  all-answers p =
+      pick (λ (w : Worked). Answers (w .response)) (eqb (r .identifier) 1)
+      (λ e. read-answers (readBlocks p 4 (r .addresses)) (reads p))
+      (λ e. change-answers (changeAll (r .addresses) (r .blocks) p .answers) (changes p e))
+
+pub answer-fits : AnswerFits
+answer-fits r p f = all-answers r f p .fits
+
+pub answer-short : AnswerShort
+answer-short r p f = all-answers r f p .short
+
+pub answer-readable : AnswerReadable
+answer-readable r p f =
+    let a = worked r p .response in
+    responses .exact (response .write a) .1 (rw (response-bytes a) (answer-short r p f), (a, answer-fits r p f, sym (response-bytes a)))
+
+pub answers-header : AnswersHeader
+unfolding worked
+answers-header r p =
+    pick (λ (w : Worked). SameHeader r (w .response)) (eqb (r .identifier) 1)
+    (λ e. same _)
+    (λ e. pick (SameHeader r) (hasError (changeAll (r .addresses) (r .blocks) p .answers)) (λ t. same _) (λ t. same _))
+  where
+    same : {id : ℕ} (bs : List Block) → SameHeader r (answerOf r id bs)
+    same bs = record { reference = refl; axis = refl; count = refl }
+
+pub answer-axis : AnswerAxis
+unfolding numberAt
+answer-axis r p f =
+    let h = answers-header r p in
+    rw (response-bytes (worked r p .response), h .axis, lt-ltb (r .axis) 256 (f .axis)) (zero-add (r .axis))
+
+pub one-each : OneEach
+one-each r p f = pick (λ bs. length bs ≡ length (r .addresses)) (eqb (r .identifier) 1) (λ e. reads r f p .count) (λ e. changes r f p e .count)
+
+pub answers-blocks : AnswersBlocks
+unfolding worked
+answers-blocks r p =
+    cases (eqb (r .identifier) 1) (λ e. rw e)
+    (λ e. rw e (cases (hasError (changeAll (r .addresses) (r .blocks) p .answers)) (λ h. rw h) (λ h. rw h)))
+
+pub answers-identifier : AnswersIdentifier
+unfolding worked
+answers-identifier r p f =
+    cases (eqb (r .identifier) 1)
+    (λ e. rw (e, eqb-true (r .identifier) 1 e))
+    (λ e. rw (e, is-change r f e) (cases (hasError (changeAll (r .addresses) (r .blocks) p .answers)) (λ h. rw h) (λ h. rw h)))
+
+pub failure-answered : FailureAnswered
+failure-answered r p f = (fails (hasError (blocksOf r p)) (answers-identifier r p f), shows)
+  where
+    id : ℕ
+    id = worked r p .response .identifier
+
+    fails : (h : Bool) → id ≡ cond h (0x80 + r .identifier) (r .identifier) → (id ≡ 0x81) ⊎ (id ≡ 0x82) → h ≡ true
+    fails true e s = refl
+    fails false e (inl s) = absurd (omega (arith, f .identifier .1))
+    fails false e (inr s) = absurd (omega (arith, f .identifier .1))
+
+    shows : hasError (blocksOf r p) ≡ true → (id ≡ 0x81) ⊎ (id ≡ 0x82)
+    shows t =
+        let e : id ≡ 0x80 + r .identifier = answers-identifier r p f ∙ rw t in
+        cases (eqb (r .identifier) 1)
+        (λ one. inl (omega (arith, eqb-true (r .identifier) 1 one)))
+        (λ two. inr (omega (arith, is-change r f two)))

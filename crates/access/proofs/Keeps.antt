@@ -1,0 +1,257 @@
+-- What is kept of a part that a request is worked on: all but the elements that it asks for, their limits, and that it is well-formed.
+use mathlib.Core.Path.{_≡_, refl, sym, ap, subst, _∙_}
+use mathlib.Core.Bool.{Bool, true, false, cond, not, _&&_, _||_, true≢false, and-eq-true-iff}
+use mathlib.Core.List.{List, [], _∷_, List·Memᴰ, List·Memᴰ·head, List·Memᴰ·tail}
+use mathlib.Core.Logic.{_⊎_, inl, inr}
+use Prim.Native.Nat.{ℕ, zero, suc, _+_, _-_, _*_, _^_, _≤_, _<_}
+use native.Mathlib.Decide.{decLe}
+use native.Mathlib.Omega.{arith}
+use lib.Dec.{eqb}
+use lib.ListN.{length, drop}
+use lib.Seq.{drop-drop}
+use borrow.Author.Tests.{eqb-true, not-true}
+use Rattle.codes.specs.Code.{Got, got, bad, AllOf, readable}
+use Rattle.codes.specs.Number.{numberAt}
+use Rattle.blocks.specs.Block.{Block, blockLimit}
+use Rattle.blocks.specs.Request.{Request, request}
+use Rattle.blocks.specs.Response.{response}
+use Rattle.blocks.specs.Page.{AddressFits, BlockFits, RequestFits}
+use Rattle.blocks.proofs.Sound.{request-sound}
+use Rattle.blocks.proofs.Page.{request-valid}
+use Rattle.blocks.specs.declared.reader.Address.{Address}
+use Rattle.drive.specs.Faults.{situations, buffer, allProper}
+use Rattle.catalogue.specs.declared.Row.{Row}
+use Rattle.catalogue.specs.declared.Found.the-variants.{At}
+use Rattle.catalogue.specs.Table.{rows, parameterBytes, findOf, offsetOf, sizeOf as elementSize}
+use Rattle.catalogue.specs.Element.{placeOf, inside, elementOf, putElement, freshOf}
+use Rattle.catalogue.proofs.Elements.{element-length, element-stored, element-unstored}
+use Rattle.catalogue.proofs.Rows.{found-row, every-row, element-elsewhere, element-rest}
+use Rattle.part.specs.Layout.{stateAt, lengthAt, responseAt, partSize, withResponse}
+use Rattle.part.specs.Record.{wordsAt}
+use Rattle.part.specs.WellFormed.{isState, everyElement, everyRow, limitsFit, fixedFit, waitingFits, unusedFit, wellFormed}
+use Rattle.part.proofs.Laws.{response-well-formed}
+use Rattle.access.specs.Change.{Changed, storeFrom, changeOne, changeAll}
+use Rattle.access.specs.Work.{Worked, worked, Outcome, takenIf, outcomeOf}
+use Rattle.access.specs.Laws.{ReadKeeps, Names, Asked, Allowed, Kept, OnlyAskedChanges, StaysWellFormed, OutcomeWellFormed}
+use Rattle.access.proofs.Answers.{pick, Stores, change-cases, is-change, answer-readable, answer-axis}
+
+pub read-keeps : ReadKeeps
+unfolding worked
+read-keeps r p e = rw e (refl, refl)
+
+-- What is kept by two steps, one after the other, and by a step that may change less.
+module _ {May : Row → ℕ → Type 0} where
+  kept-none : (p : List ℕ) → Kept May p p
+  kept-none p = record { size = refl; beyond = refl; elements = λ q m j h. inl refl }
+
+  kept-then : {p s t : List ℕ} → Kept May p s → Kept May s t → Kept May p t
+  kept-then {p} {s} {t} first second =
+      record {
+        size = second .size ∙ first .size;
+        beyond = second .beyond ∙ first .beyond;
+        elements = λ q m j h. go q j (first .elements q m j h) (second .elements q m j h);
+      }
+    where
+      go : (q : Row) (j : ℕ) → Allowed May p s q j → Allowed May s t q j → Allowed May p t q j
+      go q j (inl d) (inl e) = inl (e ∙ d)
+      go q j (inr n) (inl e) = inr (n .0, ap (inside q) e ∙ n .1)
+      go q j d (inr n) = inr n
+
+  kept-more : {Might : Row → ℕ → Type 0} {p s : List ℕ} → ((q : Row) (j : ℕ) → May q j → Might q j) → Kept May p s → Kept Might p s
+  kept-more {Might} {p} {s} more k =
+      record { size = k .size; beyond = k .beyond; elements = λ q m j h. go q j (k .elements q m j h) }
+    where
+      go : (q : Row) (j : ℕ) → Allowed May p s q j → Allowed Might p s q j
+      go q j (inl e) = inl e
+      go q j (inr n) = inr (more q j (n .0), n .1)
+
+-- n elements of a row, from element i on
+abbrev Among : Row → ℕ → ℕ → Row → ℕ → Type 0
+Among r i n q j = (q ≡ r) × (i ≤ j) × (j < i + n)
+
+module _ (r : Row) (m : List·Memᴰ r rows) where
+  -- one element, with a value inside its limits
+  element-kept : (i x : ℕ) (p : List ℕ) → i < r .count → inside r x ≡ true → x < 256 ^ elementSize (r .kind) → Kept (Among r i 1) p (putElement r i x p)
+  element-kept i x p k ok small =
+      record {
+        size = element-length r i x p;
+        beyond = element-rest r m i k x p;
+        elements = λ q n j h. go q j (decLe (placeOf r i + elementSize (r .kind)) (length p)) (element-elsewhere q r n m j i h k x p);
+      }
+    where
+      after : List ℕ
+      after = putElement r i x p
+
+      go : (q : Row) (j : ℕ) → Dec (placeOf r i + elementSize (r .kind) ≤ length p) → ((q ≡ r) × (j ≡ i)) ⊎ (elementOf q j after ≡ elementOf q j p) → Allowed (Among r i 1) p after q j
+      go q j d (inr e) = inl e
+      go q j (yes room) (inl s) = inr ((s .0, omega (arith, s .1), omega (arith, s .1)), rw (s .0, s .1, element-stored r i x p room small) ok)
+      go q j (no n) (inl s) = inl (ap (elementOf q j) (element-unstored r i x p (omega arith)))
+
+  store-kept : (i : ℕ) (xs p : List ℕ) → i + length xs ≤ r .count → AllOf (λ x. x < 256 ^ elementSize (r .kind)) xs → Kept (Among r i (length xs)) p (storeFrom r i xs p .part)
+  store-kept i [] p room small = kept-none p
+  store-kept i (x ∷ xs) p room small =
+      pick (λ (c : Changed). Kept (Among r i (length (x ∷ xs))) p (c .part)) (inside r x)
+      (λ ok.
+      kept-then
+      (kept-more (λ q j a. (a .0, a .1, omega (arith, a .2))) (element-kept i x p (omega arith) ok (small .0)))
+      (kept-more (λ q j a. (a .0, omega (arith, a .1), omega (arith, a .2))) (store-kept (i + 1) xs (putElement r i x p) (omega arith) (small .1))))
+      (λ t. kept-none p)
+
+-- one address with its block of values
+abbrev AskedBy : Address → Row → ℕ → Type 0
+AskedBy a q j = Names a q j × (q .writable ≡ true)
+
+change-kept : (a : Address) → AddressFits a → (b : Block) → BlockFits 2 b → (p : List ℕ) → Kept (AskedBy a) p (changeOne a b p .part)
+change-kept a f b g p = change-cases a f b p (λ c. Kept (AskedBy a) p (c .part)) (λ e small. kept-none p) stores
+  where
+    stores : (r : Row) (n : ℕ) → Stores a b r n → Kept (AskedBy a) p (storeFrom r (a .subindex) (b .values) p .part)
+    stores r n s =
+        let small : AllOf (λ x. x < 256 ^ elementSize (r .kind)) (b .values) = subst (λ (w : ℕ). AllOf (λ x. x < 256 ^ w) (b .values)) (s .wide) (g .values) in
+        kept-more
+        (λ q j x. (
+          record { found = rw (x .0) (s .named .found); number = n; passed = rw (x .0) (s .passed); from = x .1; before = omega (arith, s .count, x .2) },
+          rw (x .0) (s .writable),
+        ))
+        (store-kept r (s .named .row) (a .subindex) (b .values) p (omega (arith, s .count, s .named .room)) small)
+
+all-kept : (them : List Address) (bs : List Block) (p : List ℕ) → AllOf AddressFits them → AllOf (BlockFits 2) bs → Kept (Asked them) p (changeAll them bs p .part)
+all-kept [] bs p f g = kept-none p
+all-kept (a ∷ more) [] p f g = kept-none p
+all-kept (a ∷ more) (b ∷ bs) p f g =
+    kept-then
+    (kept-more (λ q j x. record { address = a; sent = List·Memᴰ·head refl; names = x .0; writable = x .1 }) (change-kept a (f .0) b (g .0) p))
+    (kept-more
+    (λ q j x. record { address = x .address; sent = List·Memᴰ·tail (x .sent); names = x .names; writable = x .writable })
+    (all-kept more bs (changeOne a b p .part) (f .1) (g .1)))
+
+pub only-asked-changes : OnlyAskedChanges
+unfolding worked
+only-asked-changes r p f =
+    pick (λ (w : Worked). Kept (Asked (r .addresses)) p (w .part)) (eqb (r .identifier) 1)
+    (λ e. kept-none p)
+    (λ e. all-kept (r .addresses) (r .blocks) p (f .addresses) (rw (is-change r f e) at (f .blocks)))
+
+-- A well-formed part stays well-formed.
+and-map : {a b c d : Bool} → (a ≡ true → c ≡ true) → (b ≡ true → d ≡ true) → a && b ≡ true → c && d ≡ true
+and-map {a} {b} {c} {d} f g e = let two = and-eq-true-iff a b .0 e in and-eq-true-iff c d .1 (f (two .0), g (two .1))
+
+test-map : (b : Bool) {x y : Bool} → (b ≡ true → x ≡ true → y ≡ true) → cond b x true ≡ true → cond b y true ≡ true
+test-map true f e = f refl e
+test-map false f e = refl
+
+rows-map : (ok okay : Row → Bool) (rs : List Row) → ((q : Row) → List·Memᴰ q rs → ok q ≡ true → okay q ≡ true) → everyRow ok rs ≡ true → everyRow okay rs ≡ true
+rows-map ok okay [] f e = refl
+rows-map ok okay (r ∷ rs) f e = and-map {a = ok r} (f r (List·Memᴰ·head refl)) (rows-map ok okay rs (λ q m. f q (List·Memᴰ·tail m))) e
+
+elements-map : (ok okay : ℕ → Bool) (n : ℕ) → ((j : ℕ) → j < n → ok j ≡ true → okay j ≡ true) → everyElement ok n ≡ true → everyElement okay n ≡ true
+elements-map ok okay zero f e = refl
+elements-map ok okay (suc n) f e = and-map {b = ok n} (elements-map ok okay n (λ j h. f j (omega arith))) (f n (omega arith)) e
+
+-- 930 and 965 cannot be written
+fixed-row : (q : Row) → List·Memᴰ q rows → eqb (q .pnu) 930 || eqb (q .pnu) 965 ≡ true → q .writable ≡ false
+unfolding rows
+fixed-row q m e = not-true (q .writable) (rw e at (every-row (λ r. not (eqb (r .pnu) 930 || eqb (r .pnu) 965) || not (r .writable)) rows refl q m))
+
+words-same : (n at : ℕ) (s t : List ℕ) → ((k : ℕ) → k < n → numberAt 2 s (at + k * 2) ≡ numberAt 2 t (at + k * 2)) → wordsAt n s at ≡ wordsAt n t at
+words-same zero at s t h = refl
+words-same (suc n) at s t h =
+    let first : numberAt 2 s at ≡ numberAt 2 t at = let z : at + 0 * 2 ≡ at = omega arith in rw z at (h 0 (omega arith)) in
+    rw (first, words-same n (at + 2) s t (λ k b. let z : at + 2 + k * 2 ≡ at + suc k * 2 = omega arith in rw z (h (suc k) (omega arith))))
+
+-- only writable elements were changed, and what was changed is inside its limits
+module _ (May : Row → ℕ → Type 0) (writes : (q : Row) (j : ℕ) → May q j → q .writable ≡ true) (p after : List ℕ) (k : Kept May p after) where
+  drop-beyond : (n : ℕ) → parameterBytes ≤ n → drop n after ≡ drop n p
+  drop-beyond n h =
+      let e : n ≡ parameterBytes + (n - parameterBytes) = omega arith in
+      rw e (sym (drop-drop (n - parameterBytes) parameterBytes after) ∙ (ap (drop (n - parameterBytes)) (k .beyond) ∙ drop-drop (n - parameterBytes) parameterBytes p))
+
+  number-beyond : (w n : ℕ) → parameterBytes ≤ n → numberAt w after n ≡ numberAt w p n
+  unfolding numberAt
+  number-beyond w n h = rw (drop-beyond n h)
+
+  unwritten : (q : Row) → List·Memᴰ q rows → q .writable ≡ false → (j : ℕ) → j < q .count → elementOf q j after ≡ elementOf q j p
+  unwritten q m shut j h = go (k .elements q m j h)
+    where
+      go : Allowed May p after q j → elementOf q j after ≡ elementOf q j p
+      go (inl e) = e
+      go (inr n) = absurd (true≢false (sym (writes q j (n .0)) ∙ shut))
+
+  limits-kept : (q : Row) → List·Memᴰ q rows → limitsFit p q ≡ true → limitsFit after q ≡ true
+  unfolding limitsFit
+  limits-kept q m = test-map (q .writable) (λ w. elements-map _ _ (q .count) (λ j h. go j (k .elements q m j h)))
+    where
+      go : (j : ℕ) → Allowed May p after q j → inside q (elementOf q j p) ≡ true → inside q (elementOf q j after) ≡ true
+      go j (inl e) ok = ap (inside q) e ∙ ok
+      go j (inr n) ok = n .1
+
+  fixed-kept : (q : Row) → List·Memᴰ q rows → fixedFit p q ≡ true → fixedFit after q ≡ true
+  unfolding fixedFit
+  fixed-kept q m =
+      test-map (eqb (q .pnu) 930 || eqb (q .pnu) 965)
+      (λ t. elements-map _ _ (q .count) (λ j h e. ap (λ (x : ℕ). eqb x (freshOf q j)) (unwritten q m (fixed-row q m t) j h) ∙ e))
+
+  -- a parameter of words that cannot be written, as the fault buffer is
+  words-kept : (pnu : ℕ) (q : Row) → findOf pnu ≡ At q → elementSize (q .kind) ≡ 2 → q .writable ≡ false → wordsAt (q .count) after (offsetOf pnu) ≡ wordsAt (q .count) p (offsetOf pnu)
+  unfolding elementOf offsetOf
+  words-kept pnu q e two shut =
+      rw e (words-same (q .count) (q .offset) after p (λ j h. rw two at (unwritten q (found-row pnu q e) shut j h)))
+
+  faults-kept : wordsAt buffer after (offsetOf 947) ≡ wordsAt buffer p (offsetOf 947)
+  unfolding findOf rows
+  faults-kept = words-kept 947 _ refl refl refl
+
+  waiting-kept : (axis : ℕ) → waitingFits axis after ≡ waitingFits axis p
+  unfolding waitingFits
+  waiting-kept axis = rw (number-beyond 1 lengthAt (omega arith), drop-beyond responseAt (omega arith))
+
+  unused-kept : unusedFit after ≡ unusedFit p
+  unfolding unusedFit
+  unused-kept = rw (number-beyond 1 lengthAt (omega arith), drop-beyond responseAt (omega arith))
+
+  pub well-formed-kept : (axis : ℕ) → wellFormed axis p ≡ true → wellFormed axis after ≡ true
+  unfolding wellFormed
+  well-formed-kept axis =
+      and-map
+      (and-map
+      (and-map
+      (and-map
+      (and-map
+      (and-map
+      (same (ap (λ (n : ℕ). eqb n partSize) (k .size)))
+      (same (ap isState (number-beyond 1 stateAt (omega arith)))))
+      (rows-map (limitsFit p) (limitsFit after) rows limits-kept))
+      (rows-map (fixedFit p) (fixedFit after) rows fixed-kept))
+      (same (ap (allProper situations) faults-kept)))
+      (same (waiting-kept axis)))
+      (same unused-kept)
+    where
+      same : {a b : Bool} → b ≡ a → a ≡ true → b ≡ true
+      same e t = e ∙ t
+
+pub stays-well-formed : StaysWellFormed
+stays-well-formed axis r p f = well-formed-kept (Asked (r .addresses)) (λ q j a. a .writable) p (worked r p .part) (only-asked-changes r p f) axis
+
+-- and with the response waiting in it
+pub answer-waits : (axis : ℕ) (r : Request) (p : List ℕ) → RequestFits r → r .axis ≡ axis → wellFormed axis p ≡ true
+    → wellFormed axis (withResponse (response .write (worked r p .response)) (worked r p .part)) ≡ true
+answer-waits axis r p f e w =
+    response-well-formed axis (worked r p .part) (stays-well-formed axis r p f w)
+    (response .write (worked r p .response))
+    (answer-readable r p f)
+    (answer-axis r p f ∙ e)
+
+pub outcome-well-formed : OutcomeWellFormed
+unfolding outcomeOf
+outcome-well-formed axis s p w = go (request .read s) refl
+  where
+    Good : Outcome → Type 0
+    Good o = wellFormed axis (o .part) ≡ true
+
+    go : (g : Got Request) → request .read s ≡ g → Good (takenIf axis p (readable blockLimit request s) g)
+    go (got r t) e =
+        pick Good (readable blockLimit request s)
+        (λ u. pick Good (eqb (r .axis) axis)
+        (λ v. answer-waits axis r p (request-valid r .0 (request-sound .only s r t e .0)) (eqb-true (r .axis) axis v) w)
+        (λ v. w))
+        (λ u. w)
+    go bad e = w

@@ -1,0 +1,14 @@
+pub mod Checks
+pub mod Gathered
+pub mod Room
+pub mod Filled
+pub mod Reading
+pub mod Storing
+pub mod Answering
+pub mod Refusing
+pub mod Changing
+pub mod Requested
+pub mod Responding
+pub mod Outcomes
+pub mod Answers
+pub mod Keeps

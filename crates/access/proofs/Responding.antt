@@ -1,0 +1,103 @@
+-- The response that waits: a header over the first bytes of an array, and the blocks that stand after it.
+use mathlib.Core.Path.{_≡_, refl, sym, _∙_, ap, subst}
+use mathlib.Core.Bool.{Bool, true, false, cond}
+use mathlib.Core.List.{List, [], _++_}
+use Prim.Native.Nat.{ℕ, _+_, _*_, _-_, _≤_}
+use native.Mathlib.Omega.{arith}
+use lib.ListN.{length, take, drop}
+use lib.Seq.{length-take-le, take-at, drop-at, take-append-add}
+use Rattle.codes.specs.Code.{readable, writeAll}
+use Rattle.codes.specs.Number.{put}
+use Rattle.codes.proofs.Put.{put-fits}
+use Rattle.blocks.specs.Block.{Block, blockLimit}
+use Rattle.blocks.specs.Page.{blockBytes}
+use Rattle.blocks.specs.Place.{headerOf, headerBytes, walk}
+use Rattle.blocks.specs.Request.{Request, request}
+use Rattle.blocks.specs.Response.{hasError, response}
+use Rattle.blocks.specs.declared.Header.{Header}
+use Rattle.blocks.specs.declared.reader.Address.{Address}
+use Rattle.blocks.proofs.Page.{response-bytes}
+use Rattle.part.specs.Layout.{withResponse}
+use Rattle.access.specs.declared.reply.Written.{Written}
+use Rattle.access.specs.declared.change.Changes.{Changes}
+use Rattle.access.specs.Read.{readBlocks}
+use Rattle.access.specs.Change.{ChangedAll, changeAll}
+use Rattle.access.specs.Work.{answerOf, read, change}
+use Rattle.access.specs.Walk.{WroteAll, DidAll, blocksIn, requestIn, leaves}
+use Rattle.access.proofs.Room.{blocks-room}
+use Rattle.access.proofs.Answering.{answers-short}
+use Rattle.access.proofs.Requested.{header-is, count-few, walk-is, walk-whole, blocks-are}
+
+-- the first n bytes, under a header
+pub header-over : (l : List ℕ) (h : Header) (n : ℕ) → 4 ≤ n → 4 ≤ length l → take n (put l 0 (headerBytes h)) ≡ headerBytes h ++ take (n - 4) (drop 4 l)
+header-over l h n k s =
+    let z : n ≡ 4 + (n - 4) = omega arith in
+    ap (take n) (put-fits l 0 (headerBytes h) s)
+    ∙ (ap (λ (m : ℕ). take m (headerBytes h ++ drop 4 l)) z ∙ take-append-add (headerBytes h) (drop 4 l) (n - 4))
+
+-- what was put after it
+put-back : (l bs : List ℕ) (at n : ℕ) → at + length bs ≤ length l → n ≡ at + length bs → take (n - at) (drop at (put l at bs)) ≡ bs
+put-back l bs at n h e =
+    let rest = drop (at + length bs) l in
+    let k : n - at ≡ length bs = omega arith in
+    ap (λ (x : List ℕ). take (n - at) (drop at x)) (put-fits l at bs h)
+    ∙ (ap (take (n - at)) (drop-at (take at l) (bs ++ rest) at (length-take-le at l (omega arith)))
+    ∙ (ap (λ (m : ℕ). take m (bs ++ rest)) k ∙ take-at bs rest (length bs) refl))
+
+-- the request's header with another identifier
+abbrev named : Header → ℕ → Header
+named h id = record { reference = h .reference; identifier = id; axis = h .axis; count = h .count }
+
+module _ (s : List ℕ) (e : readable blockLimit request s ≡ true) (h : Header) (eh : h ≡ headerOf s) (l p : List ℕ) (room : length l ≡ blockLimit) where
+  abbrev r : Request
+  r = requestIn s
+
+  bare : (id : ℕ) (bs : List Block) → headerBytes (named h id) ++ writeAll blockBytes bs ≡ response .write (answerOf r id bs)
+  bare id bs = ap (λ (x : Header). headerBytes (named x id) ++ writeAll blockBytes bs) (header-is s e h eh) ∙ sym (response-bytes (answerOf r id bs))
+
+  -- a header over the blocks that were written
+  full : (id : ℕ) (bs : List Block) (body : List ℕ) (w : Written) → WroteAll l body 4 bs w → w .next ≤ blockLimit → headerBytes (named h id) ++ take (w .next - 4) (drop 4 body) ≡ response .write (answerOf r id bs)
+  full id bs body w o k =
+      ap (λ (x : List ℕ). headerBytes (named h id) ++ take (w .next - 4) (drop 4 x)) (o .bytes)
+      ∙ (ap (λ (x : List ℕ). headerBytes (named h id) ++ x) (put-back l (writeAll blockBytes bs) 4 (w .next) (omega (arith, o .next)) (o .next)) ∙ bare id bs)
+
+  module _ (body : List ℕ) (w : Written) (o : WroteAll l body 4 (readBlocks p 4 (walk (h .count) s 4)) w) where
+    pub read-room : (4 ≤ w .next) × (w .next ≤ blockLimit)
+    read-room =
+        let b = blocks-room p (walk (h .count) s 4) 4 (omega (arith, walk-whole s e h eh, count-few s e h eh)) in
+        (omega (arith, o .next), omega (arith, o .next))
+
+    pub read-leaves : (t : Bool) → w .error ≡ t → withResponse (headerBytes (named h (cond t 0x81 0x01)) ++ take (w .next - 4) (drop 4 body)) p ≡ leaves (read r p)
+    read-leaves t q =
+        let bs = readBlocks p 4 (r .addresses) in
+        let same : WroteAll l body 4 bs w = subst (λ (them : List Address). WroteAll l body 4 (readBlocks p 4 them) w) (walk-is s e h eh) o in
+        ap (λ (x : List ℕ). withResponse x p) (full (cond t 0x81 0x01) bs body w same (read-room .1))
+        ∙ ap (λ (x : Bool). withResponse (response .write (answerOf r (cond x 0x81 0x01) bs)) p) (sym q ∙ same .error)
+
+  module _ (no : h .identifier ≡ 1 → ⊥) (q body : List ℕ) (d : Changes) (o : DidAll (changeAll (walk (h .count) s 4) (blocksIn (h .count) s (4 + h .count * 6)) p) q l body d) where
+    pub change-room : (4 ≤ d .next) × (d .next ≤ blockLimit)
+    change-room =
+        let b = answers-short (walk (h .count) s 4) (blocksIn (h .count) s (4 + h .count * 6)) p in
+        (omega (arith, o .wrote .next), omega (arith, o .wrote .next, walk-whole s e h eh, count-few s e h eh))
+
+    abbrev c : ChangedAll
+    c = changeAll (r .addresses) (r .blocks) p
+
+    same : DidAll c q l body d
+    same =
+        subst (λ (bs : List Block). DidAll (changeAll (r .addresses) bs p) q l body d) (blocks-are s e h eh no)
+        (subst (λ (them : List Address). DidAll (changeAll them (blocksIn (h .count) s (4 + h .count * 6)) p) q l body d) (walk-is s e h eh) o)
+
+    pub change-stored : d .stored ≡ change r p .stored
+    change-stored = same .stored
+
+    pub change-failed : d .error ≡ true → withResponse (headerBytes (named h 0x82) ++ take (d .next - 4) (drop 4 body)) q ≡ leaves (change r p)
+    change-failed t =
+        let f : hasError (c .answers) ≡ true = sym (same .wrote .error) ∙ t in
+        ap (λ (x : List ℕ). withResponse x q) (full 0x82 (c .answers) body (record { next = d .next; error = d .error }) (same .wrote) (change-room .1))
+        ∙ rw (f, same .part) refl
+
+    pub change-done : d .error ≡ false → withResponse (headerBytes (named h 0x02) ++ take (4 - 4) (drop 4 body)) q ≡ leaves (change r p)
+    change-done t =
+        let f : hasError (c .answers) ≡ false = sym (same .wrote .error) ∙ t in
+        ap (λ (x : List ℕ). withResponse x q) (bare 0x02 []) ∙ rw (f, same .part) refl

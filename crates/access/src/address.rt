@@ -1,0 +1,60 @@
+// What an address names: the elements of a parameter, or its error.
+ghost use mathlib.Core.Path.{_≡_};
+ghost use Rattle.access.specs.Address.{ofSimple, ofArray, ofRow, checked};
+use super::Checked;
+use blocks::reader::Address;
+use catalogue::Found;
+use catalogue::Row;
+
+fn of_simple(a: Address, r: Row) -> Checked
+    ensures { λ q. ⌜ q ≡ ofSimple a r ⌝ }
+{
+    if a.subindex == 0 {
+        if a.elements <= 1 {
+            return Checked::Elements(r, 1);
+        }
+    }
+    Checked::Error(0x04)
+}
+
+fn of_array(a: Address, r: Row) -> Checked
+    ensures { λ q. ⌜ q ≡ ofArray a r ⌝ }
+{
+    if a.elements == 0 {
+        return Checked::Error(0x16);
+    }
+    if (r.count as usize) < (a.subindex as usize) + (a.elements as usize) {
+        return Checked::Error(0x03);
+    }
+    Checked::Elements(r, a.elements as u16)
+}
+
+fn of_row(a: Address, r: Row) -> Checked
+    ensures { λ q. ⌜ q ≡ ofRow a r ⌝ }
+{
+    if a.attribute == 0x20 {
+        return Checked::Error(0x09);
+    }
+    if a.attribute == 0x30 {
+        return Checked::Error(0x0F);
+    }
+    if a.attribute != 0x10 {
+        return Checked::Error(0x16);
+    }
+    if r.simple {
+        of_simple(a, r)
+    } else {
+        of_array(a, r)
+    }
+}
+
+// The elements that an address names, from its sub-index on, or its error.
+pub fn check(a: Address) -> Checked
+    ensures { λ q. ⌜ q ≡ checked a ⌝ }
+{
+    let f = catalogue::find(a.pnu);
+    let Found::At(r) = f else {
+        return Checked::Error(0x00);
+    };
+    of_row(a, r)
+}

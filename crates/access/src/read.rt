@@ -1,0 +1,114 @@
+// A request (01): the blocks of values and errors that answer its addresses.
+ghost use mathlib.Core.Path.{_≡_};
+ghost use mathlib.Core.Bool.{true};
+ghost use Prim.Native.Nat.{_+_, _*_, _≤_};
+ghost use lib.ListN.{length};
+ghost use Rattle.codes.specs.Code.{readable};
+ghost use Rattle.drive.specs.Faults.{buffer};
+ghost use Rattle.blocks.specs.Block.{blockLimit};
+ghost use Rattle.blocks.specs.Request.{request};
+ghost use Rattle.blocks.specs.Place.{headerOf, walk};
+ghost use Rattle.catalogue.specs.Element.{sizeCode};
+ghost use Rattle.access.specs.Read.{elementsFrom, fitted, readBlock, readBlocks};
+ghost use Rattle.access.specs.Work.{read};
+ghost use Rattle.access.specs.Walk.{gathered, Wrote, WroteAll, requestIn, leaves};
+use super::Checked;
+use super::reply;
+use super::reply::Written;
+use blocks::Header;
+use blocks::reader::Address;
+use blocks::reader::Step;
+use catalogue::Row;
+
+// No parameter has more elements than the fault buffer.
+const MOST: usize = drive::faults::BUFFER;
+
+// n elements of a row from element i on.
+fn gather(part: &[u8], r: Row, i: u16, n: u16) -> [u32; MOST]
+    requires { ⌜ i + n ≤ buffer ⌝ }
+    ensures { λ v. ⌜ v ≡ gathered r i n (now (part .entry)) ⌝ }
+{
+    let mut values = [0u32; MOST];
+    let mut j: u16 = 0;
+    while j < n {
+        values[j as usize] = catalogue::element(part, r, i + j);
+        j += 1;
+    }
+    values
+}
+
+// A block of values goes in only where it leaves 4 bytes for each address after it.
+fn put_elements(
+    part: &[u8],
+    r: Row,
+    i: u16,
+    n: u16,
+    out: &mut [u8],
+    at: usize,
+    after: usize,
+) -> Written
+    requires { ⌜ (i + n ≤ buffer) × (at ≤ blockLimit) × (after ≤ blockLimit) ⌝ }
+    ensures { λ w. ⌜ Wrote (now (out .entry)) (now (out .exit)) at (fitted at after (record { format = sizeCode (r .kind); values = elementsFrom r i n (now (part .entry)) })) w ⌝ }
+{
+    let k = r.kind;
+    let f = catalogue::size_code(k);
+    let size = blocks::writer::block_size(f, n as u8);
+    if blocks::BLOCK_LIMIT < at + size + 4 * after {
+        return reply::put_failed(out, at, 0x15);
+    }
+    let values = gather(part, r, i, n);
+    blocks::writer::put_block(out, at, f, &values[..n as usize]);
+    Written {
+        next: at + size,
+        error: false,
+    }
+}
+
+// The block for one address, with `at` bytes before it and `after` addresses to come.
+fn read_one(part: &[u8], a: Address, out: &mut [u8], at: usize, after: usize) -> Written
+    requires { ⌜ (at ≤ blockLimit) × (after ≤ blockLimit) ⌝ }
+    ensures { λ w. ⌜ Wrote (now (out .entry)) (now (out .exit)) at (readBlock (now (part .entry)) at after a) w ⌝ }
+{
+    let c = super::address::check(a);
+    match c {
+        Checked::Error(e) => reply::put_failed(out, at, e),
+        Checked::Elements(r, n) => put_elements(part, r, a.subindex, n, out, at, after),
+    }
+}
+
+// The blocks for n addresses, in order, after the header.
+pub(crate) fn read_all(part: &[u8], block: &[u8], n: usize, out: &mut [u8]) -> Written
+    requires { ⌜ (length (walk n (now block) 4) ≡ n) × (n ≤ 39) × (length (now out) ≡ blockLimit) ⌝ }
+    ensures { λ w. ⌜ WroteAll (now (out .entry)) (now (out .exit)) 4 (readBlocks (now (part .entry)) 4 (walk n (now (block .entry)) 4)) w ⌝ }
+{
+    let mut at = blocks::reader::FIRST;
+    let mut used = blocks::reader::FIRST;
+    let mut error = false;
+    let mut left = n;
+    while 0 < left {
+        let s = blocks::reader::address_at(block, at);
+        let Step::Next(a, next) = s else {
+            return Written { next: used, error };
+        };
+        left -= 1;
+        let w = read_one(part, a, out, used, left);
+        at = next;
+        used = w.next;
+        error = codes::either(error, w.error);
+    }
+    Written { next: used, error }
+}
+
+// The answer to a readable request, whose header is `h`: 81 where an error was met.
+pub(crate) fn answer(part: &mut [u8], block: &[u8], h: Header)
+    requires { ⌜ (readable blockLimit request (now block) ≡ true) × (h ≡ headerOf (now block)) ⌝ }
+    ensures { λ q. ⌜ now (part .exit) ≡ leaves (read (requestIn (now (block .entry))) (now (part .entry))) ⌝ }
+{
+    let mut body = [0u8; blocks::BLOCK_LIMIT];
+    let w = read_all(part, block, codes::wide(h.count), &mut body);
+    if w.error {
+        reply::respond(part, h, 0x81, body, w.next);
+    } else {
+        reply::respond(part, h, 0x01, body, w.next);
+    }
+}

@@ -1,0 +1,14 @@
+pub mod Stores
+pub mod Waiting
+pub mod Words
+pub mod Situations
+pub mod Every
+pub mod Waits
+pub mod Rule
+pub mod FreshLaws
+pub mod Apart
+pub mod Stored
+pub mod Kept
+pub mod Held
+pub mod Laws
+pub mod Cycled

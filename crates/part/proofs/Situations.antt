@@ -1,0 +1,85 @@
+-- How the tests of a situation and of the bytes that must be 0 go on from one place to the next.
+use mathlib.Core.Path.{_≡_, _∙_, ap}
+use mathlib.Core.Bool.{Bool, true, false, _&&_}
+use mathlib.Core.List.{List}
+use Prim.Native.Nat.{ℕ, suc, _+_, _*_, _-_, _≤_, _<_}
+use native.Mathlib.Omega.{arith}
+use native.Mathlib.Numerals.{add-one}
+use lib.Dec.{eqb}
+use lib.ListN.{length, getD, take, drop, drop-of-length-le}
+use lib.Seq.{drop-cons, drop-drop}
+use borrow.Author.Tests.{eq-eqb, ne-eqb, eqb-true, eqb-false}
+use borrow.Table.Steps.{cases}
+use Rattle.drive.specs.Faults.{situations, codes, isIn, zeros, proper, allProper}
+
+module _ (s : List ℕ) (i : ℕ) (h : i < length s) where
+  pub zeros-here : zeros (drop i s) ≡ (eqb (getD s i 0) 0 && zeros (drop (i + 1) s))
+  zeros-here = rw (drop-cons s i 0 h, add-one i)
+
+  pub zeros-hit : (getD s i 0 ≡ 0 → ⊥) → zeros (drop i s) ≡ false
+  zeros-hit n = rw (zeros-here, ne-eqb (getD s i 0) 0 n)
+
+  pub zeros-next : getD s i 0 ≡ 0 → zeros (drop i s) ≡ zeros (drop (i + 1) s)
+  zeros-next e = rw (zeros-here, eq-eqb (getD s i 0) 0 e)
+
+  pub in-hit : (x : ℕ) → getD s i 0 ≡ x → isIn x (drop i s) ≡ true
+  in-hit x e = rw (drop-cons s i 0 h, eq-eqb (getD s i 0) x e)
+
+  pub in-next : (x : ℕ) → (getD s i 0 ≡ x → ⊥) → isIn x (drop i s) ≡ isIn x (drop (i + 1) s)
+  in-next x n = rw (drop-cons s i 0 h, ne-eqb (getD s i 0) x n, add-one i)
+
+  pub proper-zero : getD s i 0 ≡ 0 → proper (drop i s) ≡ zeros (drop (i + 1) s)
+  proper-zero e = rw (drop-cons s i 0 h, eq-eqb (getD s i 0) 0 e, add-one i)
+
+  pub proper-twice : (getD s i 0 ≡ 0 → ⊥) → isIn (getD s i 0) (drop (i + 1) s) ≡ true → proper (drop i s) ≡ false
+  proper-twice n t = rw (drop-cons s i 0 h, ne-eqb (getD s i 0) 0 n, ← add-one i, t)
+
+  pub proper-next : (getD s i 0 ≡ 0 → ⊥) → isIn (getD s i 0) (drop (i + 1) s) ≡ false → proper (drop i s) ≡ proper (drop (i + 1) s)
+  proper-next n t =
+      let t' : isIn (getD s i 0) (drop (suc i) s) ≡ false = rw (← add-one i) t in
+      rw (drop-cons s i 0 h, ne-eqb (getD s i 0) 0 n, t', add-one i)
+
+-- past the end there is no code
+module _ (s : List ℕ) (i : ℕ) (h : length s ≤ i) where
+  pub zeros-end : zeros (drop i s) ≡ true
+  zeros-end = rw (drop-of-length-le s {i = i} h)
+
+  pub in-end : (x : ℕ) → isIn x (drop i s) ≡ false
+  in-end x = rw (drop-of-length-le s {i = i} h)
+
+  pub proper-end : proper (drop i s) ≡ true
+  proper-end = rw (drop-of-length-le s {i = i} h)
+
+-- a sum is 0 where what is added up is
+sum-zero : (a b : ℕ) → eqb (a + b) 0 ≡ (eqb a 0 && eqb b 0)
+sum-zero a b =
+    cases (eqb a 0)
+    (λ ea. cases (eqb b 0)
+    (λ eb. rw (ea, eb) (eq-eqb (a + b) 0 (omega (arith, eqb-true a 0 ea, eqb-true b 0 eb))))
+    (λ nb. rw (ea, nb) (ne-eqb (a + b) 0 (λ e. eqb-false b 0 nb (omega arith)))))
+    (λ na. rw na (ne-eqb (a + b) 0 (λ e. eqb-false a 0 na (omega arith))))
+
+pub sum-next : (s : List ℕ) (i sum : ℕ) → i < length s → (eqb sum 0 && zeros (drop i s)) ≡ (eqb (sum + getD s i 0) 0 && zeros (drop (i + 1) s))
+sum-next s i sum h = rw (zeros-here s i h, sum-zero sum (getD s i 0)) (regroup (eqb sum 0) (eqb (getD s i 0) 0) (zeros (drop (i + 1) s)))
+  where
+    regroup : (a b c : Bool) → (a && (b && c)) ≡ (a && b && c)
+    regroup true b c = cc
+    regroup false b c = cc
+
+-- the situations from the k-th on
+abbrev pub from-situation : List ℕ → ℕ → Bool
+from-situation b k = allProper (situations - k) (drop (k * codes) b)
+
+module _ (b : List ℕ) (k : ℕ) (h : k < situations) where
+  one-more : from-situation b k ≡ (proper (take codes (drop (k * codes) b)) && from-situation b (k + 1))
+  one-more =
+      let e : situations - k ≡ suc (situations - (k + 1)) = omega arith in
+      let f : k * codes + codes ≡ (k + 1) * codes = omega arith in
+      ap (λ (n : ℕ). allProper n (drop (k * codes) b)) e
+      ∙ ap (λ (l : List ℕ). proper (take codes (drop (k * codes) b)) && allProper (situations - (k + 1)) l) (drop-drop codes (k * codes) b ∙ ap (λ (n : ℕ). drop n b) f)
+
+  pub situation-unfit : proper (take codes (drop (k * codes) b)) ≡ false → from-situation b k ≡ false
+  situation-unfit e = one-more ∙ rw e
+
+  pub situation-next : proper (take codes (drop (k * codes) b)) ≡ true → from-situation b k ≡ from-situation b (k + 1)
+  situation-next e = one-more ∙ rw e

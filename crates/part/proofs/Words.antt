@@ -1,0 +1,76 @@
+-- The words of a run, read one after the other.
+use mathlib.Core.Path.{_≡_, refl, sym, _∙_, ap}
+use mathlib.Core.List.{List, [], _∷_, _++_, append-nil, append-assoc}
+use Prim.Native.Nat.{ℕ, zero, suc, _+_, _*_, _-_, _≤_, _<_}
+use native.Mathlib.Omega.{arith}
+use native.Mathlib.Numerals.{add-one}
+use lib.Dec.{lit≤}
+use lib.ListN.{length, take, drop, set, replicate}
+use lib.Seq.{set-at, append-snoc, drop-at, drop-drop, length-take-le}
+use Rattle.codes.specs.Code.{AllOf, word, writeAll}
+use Rattle.codes.specs.Number.{numberAt, put}
+use Rattle.codes.proofs.Sound.{word-sound, valid-word}
+use Rattle.codes.proofs.Put.{word-length, put-fits}
+use Rattle.codes.proofs.Number.{number-is}
+use Rattle.codes.proofs.Items.{all-length}
+use Rattle.drive.specs.Faults.{buffer}
+use Rattle.part.specs.Record.{wordsAt}
+
+pub words-length : (n : ℕ) (p : List ℕ) (at : ℕ) → length (wordsAt n p at) ≡ n
+words-length zero p at = refl
+words-length (suc n) p at = ap suc (words-length n p (at + 2))
+
+-- one word more, at the end
+words-last : (n : ℕ) (p : List ℕ) (at : ℕ) → wordsAt n p at ++ (numberAt 2 p (at + n * 2) ∷ []) ≡ wordsAt (suc n) p at
+words-last zero p at = let e : at + 0 * 2 ≡ at = omega arith in rw e
+words-last (suc n) p at =
+    let e : at + suc n * 2 ≡ at + 2 + n * 2 = omega arith in
+    rw e (ap (λ (l : List ℕ). numberAt 2 p at ∷ l) (words-last n p (at + 2)))
+
+-- a buffer of which i codes are read; the others are 0 yet
+abbrev pub read-so-far : List ℕ → ℕ → ℕ → List ℕ
+read-so-far p at i = wordsAt i p at ++ replicate (buffer - i) 0
+
+module _ (p : List ℕ) (at : ℕ) where
+  pub words-next : (i x : ℕ) → i < buffer → x ≡ numberAt 2 p (at + i * 2) → set (read-so-far p at i) i x ≡ read-so-far p at (i + 1)
+  words-next i x h e =
+      let zeros = replicate {A = ℕ} (buffer - (i + 1)) 0 in
+      let k : buffer - i ≡ suc (buffer - (i + 1)) = omega arith in
+      ap (λ (n : ℕ). set (wordsAt i p at ++ replicate n 0) i x) k
+      ∙ (set-at (wordsAt i p at) 0 zeros x i (words-length i p at)
+      ∙ (sym (append-snoc (wordsAt i p at) x zeros)
+      ∙ (ap (λ (y : ℕ). (wordsAt i p at ++ (y ∷ [])) ++ zeros) e
+      ∙ (ap (λ (l : List ℕ). l ++ zeros) (words-last i p at) ∙ ap (λ (n : ℕ). wordsAt n p at ++ zeros) (sym (add-one i))))))
+
+  pub words-all : read-so-far p at buffer ≡ wordsAt buffer p at
+  words-all = append-nil (wordsAt buffer p at)
+
+abbrev pub Words : List ℕ → Type 0
+Words = AllOf (λ (x : ℕ). x < 65536)
+
+words-read : (b q : List ℕ) (at : ℕ) (t : List ℕ) → Words b → drop at q ≡ writeAll (word 2 .write) b ++ t → wordsAt (length b) q at ≡ b
+words-read [] q at t v e = refl
+words-read (x ∷ xs) q at t v e =
+    let others = writeAll (word 2 .write) xs ++ t in
+    let f : drop at q ≡ word 2 .write x ++ others = e ∙ append-assoc (word 2 .write x) (writeAll (word 2 .write) xs) t in
+    let first : numberAt 2 q at ≡ x = number-is 2 q at x others (lit≤ tt) (ap (word 2 .read) f ∙ word-sound 2 .back x others (valid-word 2 x (v .0))) in
+    let rest : drop (at + 2) q ≡ others = sym (drop-drop 2 at q) ∙ (ap (drop 2) f ∙ drop-at (word 2 .write x) others 2 (word-length 2 x)) in
+    ap (λ (y : ℕ). y ∷ wordsAt (length xs) q (at + 2)) first ∙ ap (λ (l : List ℕ). x ∷ l) (words-read xs q (at + 2) t (v .1) rest)
+
+-- words that are put are got back
+pub words-put : (b l : List ℕ) (at : ℕ) → Words b → at + length b * 2 ≤ length l → wordsAt (length b) (put l at (writeAll (word 2 .write) b)) at ≡ b
+words-put b l at v room =
+    let bs = writeAll (word 2 .write) b in
+    let n = all-length (word 2 .write) 2 (word-length 2) b in
+    words-read b (put l at bs) at (drop (at + length bs) l) v
+    (ap (drop at) (put-fits l at bs (omega arith)) ∙ drop-at (take at l) (bs ++ drop (at + length bs) l) at (length-take-le at l (omega arith)))
+
+-- words that all stand elsewhere are as they were
+pub words-same : (n : ℕ) (p q : List ℕ) (at : ℕ) → ((i : ℕ) → i < n → numberAt 2 q (at + i * 2) ≡ numberAt 2 p (at + i * 2)) → wordsAt n q at ≡ wordsAt n p at
+words-same zero p q at h = refl
+words-same (suc n) p q at h =
+    let e : at + 0 * 2 ≡ at = omega arith in
+    let first : numberAt 2 q at ≡ numberAt 2 p at = rw e at (h 0 (omega arith)) in
+    let step : (i : ℕ) → at + suc i * 2 ≡ at + 2 + i * 2 = λ i. omega arith in
+    ap (λ (y : ℕ). y ∷ wordsAt n q (at + 2)) first
+    ∙ ap (λ (l : List ℕ). numberAt 2 p at ∷ l) (words-same n p q (at + 2) (λ i k. rw (← step i) (h (suc i) (omega arith))))

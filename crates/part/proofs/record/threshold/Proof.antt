@@ -1,0 +1,18 @@
+-- The word at the place of PNU 30003.
+use Rattle.catalogue.specs.Table.{rows, findOf, offsetOf}
+use borrow.Author.Needs.{needs}
+use Rattle.part.proofs.record.threshold.Statement.{statement}
+use Rattle.part.proofs.record.threshold.Tie as tie
+
+cast-word-at : tie.Need-cast-word-at
+cast-word-at c = search needs
+
+word-at-requires : tie.Need-word-at-requires
+word-at-requires c κs = search needs
+
+returns : tie.Need-returns
+unfolding offsetOf findOf rows
+returns c = c .word-at .ensures
+
+pub threshold-spec : {M : Type 1} → statement M
+threshold-spec = tie.close (tie.spec cast-word-at word-at-requires returns)

@@ -1,0 +1,77 @@
+-- The drive record of an axis in its part: document 01's state, PNU 944, 947 and 10100 to 10103, and the effective setpoint.
+use mathlib.Core.Bool.{cond}
+use mathlib.Core.List.{List, [], _∷_}
+use Prim.Native.Nat.{ℕ, zero, suc, _+_}
+use lib.Dec.{eqb}
+use Rattle.codes.specs.Code.{word, writeAll}
+use Rattle.codes.specs.Number.{numberAt, put, signedOf, bitsOf}
+use Rattle.drive.specs.declared.states.State.{State}
+use Rattle.drive.specs.declared.states.State.the-variants.{S1, S2, S3, S4, S51, S52}
+use Rattle.drive.specs.declared.Drive.{Drive}
+use Rattle.drive.specs.declared.faults.Faults.{Faults}
+use Rattle.drive.specs.declared.speed.N2.{N2}
+use Rattle.drive.specs.Faults.{buffer}
+use Rattle.catalogue.specs.Table.{offsetOf}
+use Rattle.part.specs.Layout.{stateAt, effectiveAt}
+
+-- the number of a state, as a cycle answers it
+abbrev pub numberOf : State → ℕ
+numberOf S1 = 1
+numberOf S2 = 2
+numberOf S3 = 3
+numberOf S4 = 4
+numberOf S51 = 51
+numberOf S52 = 52
+
+-- the state of a number; S1 where it is none
+unfoldable pub stateOf : ℕ → State
+stateOf n =
+    cond (eqb n 2) S2
+    (cond (eqb n 3) S3
+    (cond (eqb n 4) S4
+    (cond (eqb n 51) S51
+    (cond (eqb n 52) S52
+    S1))))
+
+-- n words from a place on
+abbrev pub wordsAt : ℕ → List ℕ → ℕ → List ℕ
+wordsAt zero p at = []
+wordsAt (suc n) p at = numberAt 2 p at ∷ wordsAt n p (at + 2)
+
+abbrev pub speedAt : List ℕ → ℕ → N2
+speedAt p at = record { 0 = signedOf 2 (numberAt 2 p at) }
+
+abbrev pub faultsOf : List ℕ → Faults
+faultsOf p = record { counter = numberAt 2 p (offsetOf 944); buffer = wordsAt buffer p (offsetOf 947) }
+
+unfoldable pub driveOf : List ℕ → Drive
+driveOf p =
+    record {
+      state = stateOf (numberAt 1 p stateAt);
+      word = numberAt 2 p (offsetOf 10100);
+      setpoint = speedAt p (offsetOf 10101);
+      effective = speedAt p effectiveAt;
+      status = numberAt 2 p (offsetOf 10102);
+      actual = speedAt p (offsetOf 10103);
+      faults = faultsOf p;
+    }
+
+-- the part with another drive record
+abbrev pub putWord : ℕ → ℕ → List ℕ → List ℕ
+putWord at x p = put p at (word 2 .write x)
+
+abbrev pub putSpeed : ℕ → N2 → List ℕ → List ℕ
+putSpeed at v p = putWord at (bitsOf 2 (v .0)) p
+
+abbrev pub putFaults : Faults → List ℕ → List ℕ
+putFaults f p = put (putWord (offsetOf 944) (f .counter) p) (offsetOf 947) (writeAll (word 2 .write) (f .buffer))
+
+unfoldable pub putDrive : Drive → List ℕ → List ℕ
+putDrive d p =
+    putFaults (d .faults)
+    (putSpeed (offsetOf 10103) (d .actual)
+    (putWord (offsetOf 10102) (d .status)
+    (putSpeed effectiveAt (d .effective)
+    (putSpeed (offsetOf 10101) (d .setpoint)
+    (putWord (offsetOf 10100) (d .word)
+    (put p stateAt (numberOf (d .state) ∷ [])))))))

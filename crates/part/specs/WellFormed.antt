@@ -1,0 +1,59 @@
+-- Document 01, "A part is well-formed exactly when ..": one definition for each part of the rule, in its order.
+use mathlib.Core.Bool.{Bool, true, cond, _&&_, _||_}
+use mathlib.Core.List.{List, [], _∷_}
+use Prim.Native.Nat.{ℕ, zero, suc}
+use lib.Dec.{eqb, leb}
+use lib.ListN.{length, drop}
+use Rattle.codes.specs.Code.{readable}
+use Rattle.codes.specs.Number.{numberAt}
+use Rattle.blocks.specs.Block.{blockLimit}
+use Rattle.blocks.specs.Response.{response}
+use Rattle.blocks.specs.Place.{headerOf}
+use Rattle.drive.specs.Faults.{zeros, properFaults}
+use Rattle.catalogue.specs.declared.Row.{Row}
+use Rattle.catalogue.specs.Table.{rows}
+use Rattle.catalogue.specs.Element.{inside, elementOf, freshOf}
+use Rattle.part.specs.Layout.{stateAt, partSize, waitingLength, responseBytes, waiting}
+use Rattle.part.specs.Record.{faultsOf}
+
+-- "its state is one of the six"
+abbrev pub isState : ℕ → Bool
+isState n = eqb n 1 || eqb n 2 || eqb n 3 || eqb n 4 || eqb n 51 || eqb n 52
+
+-- a test of the first n elements of a row
+abbrev pub everyElement : (ℕ → Bool) → ℕ → Bool
+everyElement ok zero = true
+everyElement ok (suc n) = everyElement ok n && ok n
+
+abbrev pub everyRow : (Row → Bool) → List Row → Bool
+everyRow ok [] = true
+everyRow ok (r ∷ rs) = ok r && everyRow ok rs
+
+-- "writable elements are inside their limits"
+unfoldable pub limitsFit : List ℕ → Row → Bool
+limitsFit p r = cond (r .writable) (everyElement (λ i. inside r (elementOf r i p)) (r .count)) true
+
+-- "930 and 965 are as fresh"
+unfoldable pub fixedFit : List ℕ → Row → Bool
+fixedFit p r =
+    cond (eqb (r .pnu) 930 || eqb (r .pnu) 965) (everyElement (λ i. eqb (elementOf r i p) (freshOf r i)) (r .count)) true
+
+-- "the waiting response is none or a readable block of that axis"
+unfoldable pub waitingFits : ℕ → List ℕ → Bool
+waitingFits axis p =
+    eqb (waitingLength p) 0
+    || leb (waitingLength p) blockLimit && readable blockLimit response (waiting p) && eqb (headerOf (waiting p) .axis) axis
+
+-- "and unused response bytes are 0"
+unfoldable pub unusedFit : List ℕ → Bool
+unusedFit p = zeros (drop (waitingLength p) (responseBytes p))
+
+unfoldable pub wellFormed : ℕ → List ℕ → Bool
+wellFormed axis p =
+    eqb (length p) partSize
+    && isState (numberAt 1 p stateAt)
+    && everyRow (limitsFit p) rows
+    && everyRow (fixedFit p) rows
+    && properFaults (faultsOf p)
+    && waitingFits axis p
+    && unusedFit p

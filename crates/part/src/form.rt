@@ -1,0 +1,219 @@
+// Whether a part is well-formed: each part of the rule is looked at once, in its order.
+ghost use mathlib.Core.Path.{_≡_};
+ghost use mathlib.Core.Bool.{true, _&&_};
+ghost use Prim.Native.Nat.{ℕ};
+ghost use lib.ListN.{length, drop};
+ghost use Rattle.drive.specs.Faults.{isIn, zeros, proper, properFaults};
+ghost use Rattle.catalogue.specs.Table.{rows};
+ghost use Rattle.catalogue.specs.Element.{inside};
+ghost use Rattle.part.specs.Layout.{partSize};
+ghost use Rattle.part.specs.Record.{faultsOf};
+ghost use Rattle.part.specs.WellFormed.{isState, everyRow, limitsFit, fixedFit, waitingFits, unusedFit, wellFormed};
+use catalogue::Kind;
+use catalogue::Row;
+
+fn is_state(n: u8) -> bool
+    ensures { λ r. ⌜ r ≡ isState n ⌝ }
+{
+    if n == 1 {
+        return true;
+    }
+    if n == 2 {
+        return true;
+    }
+    if n == 3 {
+        return true;
+    }
+    if n == 4 {
+        return true;
+    }
+    if n == 51 {
+        return true;
+    }
+    n == 52
+}
+
+// The limits of a row cover its whole type, so that no value lies outside them.
+fn is_free(r: Row) -> bool
+    ensures { λ q. ⌜ (q ≡ true → (x : ℕ) → inside r x ≡ true) ⌝ }
+{
+    let k = r.kind;
+    let Kind::U16 = k else {
+        return false;
+    };
+    if r.low <= 0 { 65535 <= r.high } else { false }
+}
+
+// The elements of a writable row are inside its limits.
+fn limits_fit(part: &[u8], r: Row) -> bool
+    ensures { λ q. ⌜ q ≡ limitsFit (now (part .entry)) r ⌝ }
+{
+    if !r.writable {
+        return true;
+    }
+    if is_free(r) {
+        return true;
+    }
+    let mut i: u16 = 0;
+    while i < r.count {
+        let x = catalogue::element(part, r, i);
+        if !catalogue::is_inside(r, x) {
+            return false;
+        }
+        i += 1;
+    }
+    true
+}
+
+// The elements of 930 and 965 are as fresh.
+fn fixed_fits(part: &[u8], r: Row) -> bool
+    ensures { λ q. ⌜ q ≡ fixedFit (now (part .entry)) r ⌝ }
+{
+    if !codes::either(r.pnu == 930, r.pnu == 965) {
+        return true;
+    }
+    let mut i: u16 = 0;
+    while i < r.count {
+        let x = catalogue::element(part, r, i);
+        if x != catalogue::fresh_of(r, i) {
+            return false;
+        }
+        i += 1;
+    }
+    true
+}
+
+fn rows_fit(part: &[u8]) -> bool
+    ensures { λ q. ⌜ q ≡ (everyRow (limitsFit (now (part .entry))) rows && everyRow (fixedFit (now (part .entry))) rows) ⌝ }
+{
+    let mut i: usize = 0;
+    while i < catalogue::ROWS {
+        let r = catalogue::row_at(i);
+        if !limits_fit(part, r) {
+            return false;
+        }
+        if !fixed_fits(part, r) {
+            return false;
+        }
+        i += 1;
+    }
+    true
+}
+
+// No code stands at `from` or after it.
+fn ends(s: &[u16], from: usize) -> bool
+    ensures { λ q. ⌜ q ≡ zeros (drop from (now (s .entry))) ⌝ }
+{
+    let mut i = from;
+    while i < s.len() {
+        if s[i] != 0 {
+            return false;
+        }
+        i += 1;
+    }
+    true
+}
+
+// The code x stands at `from` or after it.
+fn stands(s: &[u16], from: usize, x: u16) -> bool
+    ensures { λ q. ⌜ q ≡ isIn x (drop from (now (s .entry))) ⌝ }
+{
+    let mut i = from;
+    while i < s.len() {
+        if s[i] == x {
+            return true;
+        }
+        i += 1;
+    }
+    false
+}
+
+// In a situation no code stands after a 0 or twice.
+fn situation_fits(s: &[u16]) -> bool
+    ensures { λ q. ⌜ q ≡ proper (now (s .entry)) ⌝ }
+{
+    let mut i: usize = 0;
+    while i < s.len() {
+        if s[i] == 0 {
+            return ends(s, i + 1);
+        }
+        if stands(s, i + 1, s[i]) {
+            return false;
+        }
+        i += 1;
+    }
+    true
+}
+
+fn faults_fit(part: &[u8]) -> bool
+    ensures { λ q. ⌜ q ≡ properFaults (faultsOf (now (part .entry))) ⌝ }
+{
+    let b = super::record::codes_of(part);
+    let mut k: usize = 0;
+    while k < drive::faults::SITUATIONS {
+        let start = k * drive::faults::CODES;
+        let end = start + drive::faults::CODES;
+        if !situation_fits(&b[start..end]) {
+            return false;
+        }
+        k += 1;
+    }
+    true
+}
+
+// The waiting response is none or a readable block of that axis.
+fn waiting_fits(part: &[u8], axis: u8) -> bool
+    requires { ⌜ length (now part) ≡ partSize ⌝ }
+    ensures { λ q. ⌜ q ≡ waitingFits axis (now (part .entry)) ⌝ }
+{
+    let n = codes::wide(super::waiting_length(part));
+    if n == 0 {
+        return true;
+    }
+    if blocks::BLOCK_LIMIT < n {
+        return false;
+    }
+    let start = super::RESPONSE;
+    let end = start + n;
+    let block = &part[start..end];
+    if !blocks::response_readable(block) {
+        return false;
+    }
+    let h = blocks::header_of(block);
+    h.axis == axis
+}
+
+// Unused response bytes are 0.
+fn unused_fits(part: &[u8]) -> bool
+    requires { ⌜ length (now part) ≡ partSize ⌝ }
+    ensures { λ q. ⌜ q ≡ unusedFit (now (part .entry)) ⌝ }
+{
+    let n = codes::wide(super::waiting_length(part));
+    if blocks::BLOCK_LIMIT < n {
+        return true;
+    }
+    let start = super::RESPONSE + n;
+    super::runs::is_clear(&part[start..])
+}
+
+// Whether the part of an axis is well-formed.
+pub fn well_formed(part: &[u8], axis: u8) -> bool
+    ensures { λ q. ⌜ q ≡ wellFormed axis (now (part .entry)) ⌝ }
+{
+    if part.len() != super::SIZE {
+        return false;
+    }
+    if !is_state(codes::byte_at(part, super::STATE)) {
+        return false;
+    }
+    if !rows_fit(part) {
+        return false;
+    }
+    if !faults_fit(part) {
+        return false;
+    }
+    if !waiting_fits(part, axis) {
+        return false;
+    }
+    unused_fits(part)
+}

@@ -1,0 +1,31 @@
+// One axis's part of the station's memory: the layout, a fresh part, the drive record in and out, and the response that waits.
+
+mod form; // form.rt: the rule for a well-formed part
+mod record; // record.rt: the drive record, in and out
+mod response; // response.rt: the response that waits
+mod runs; // runs.rt: runs of bytes
+mod start; // start.rt: a fresh part
+
+pub use form::well_formed;
+pub use record::load;
+pub use record::number_of;
+pub use record::reference;
+pub use record::store;
+pub use record::threshold;
+pub use record::window;
+pub use response::clear_response;
+pub use response::put_response;
+pub use response::waiting_length;
+pub use start::fresh;
+
+// After the parameters stand the state, the effective setpoint, the length of the waiting response, and its bytes.
+const STATE: usize = catalogue::PARAMETER_BYTES as usize;
+
+const EFFECTIVE: usize = STATE + 1;
+
+const LENGTH: usize = EFFECTIVE + 2;
+
+const RESPONSE: usize = LENGTH + 1;
+
+// Bytes of a part.
+pub const SIZE: usize = RESPONSE + blocks::BLOCK_LIMIT;

@@ -1,0 +1,163 @@
+// The drive record of an axis, in and out of its part, and the parameters that a cycle needs.
+ghost use mathlib.Core.Path.{_≡_};
+ghost use Rattle.codes.specs.Code.{word, writeAll};
+ghost use Rattle.codes.specs.Number.{numberAt, put};
+ghost use Rattle.drive.specs.Faults.{buffer};
+ghost use Rattle.catalogue.specs.Table.{offsetOf};
+ghost use Rattle.part.specs.Record.{numberOf, stateOf, wordsAt, speedAt, driveOf, putWord, putSpeed, putFaults, putDrive};
+use drive::Drive;
+use drive::Faults;
+use drive::N2;
+use drive::State;
+
+// The number of a state, as a cycle answers it.
+pub fn number_of(s: State) -> u8
+    ensures { λ r. ⌜ r ≡ numberOf s ⌝ }
+{
+    match s {
+        State::S1 => 1,
+        State::S2 => 2,
+        State::S3 => 3,
+        State::S4 => 4,
+        State::S51 => 51,
+        State::S52 => 52,
+    }
+}
+
+// The state of a number; S1 where it is none.
+fn state_of(n: u8) -> State
+    ensures { λ r. ⌜ r ≡ stateOf n ⌝ }
+{
+    if n == 2 {
+        return State::S2;
+    }
+    if n == 3 {
+        return State::S3;
+    }
+    if n == 4 {
+        return State::S4;
+    }
+    if n == 51 {
+        return State::S51;
+    }
+    if n == 52 {
+        return State::S52;
+    }
+    State::S1
+}
+
+fn speed_at(part: &[u8], at: usize) -> N2
+    ensures { λ r. ⌜ r ≡ speedAt (now (part .entry)) at ⌝ }
+{
+    N2(codes::signed16(codes::word_at(part, at)))
+}
+
+// The codes of every fault situation.
+pub(crate) fn codes_of(part: &[u8]) -> [u16; drive::faults::BUFFER]
+    ensures { λ r. ⌜ r ≡ wordsAt buffer (now (part .entry)) (offsetOf 947) ⌝ }
+{
+    let mut b = [0u16; drive::faults::BUFFER];
+    let mut i: usize = 0;
+    while i < drive::faults::BUFFER {
+        b[i] = codes::word_at(part, catalogue::AT_947 as usize + i * 2);
+        i += 1;
+    }
+    b
+}
+
+// The drive record that a part holds.
+pub fn load(part: &[u8]) -> Drive
+    ensures { λ r. ⌜ r ≡ driveOf (now (part .entry)) ⌝ }
+{
+    let b = codes_of(part);
+    let f = Faults {
+        counter: codes::word_at(part, catalogue::AT_944 as usize),
+        buffer: b,
+    };
+    let s = state_of(codes::byte_at(part, super::STATE));
+    let setpoint = speed_at(part, catalogue::AT_10101 as usize);
+    let effective = speed_at(part, super::EFFECTIVE);
+    let actual = speed_at(part, catalogue::AT_10103 as usize);
+    Drive {
+        state: s,
+        word: codes::word_at(part, catalogue::AT_10100 as usize),
+        setpoint: setpoint,
+        effective: effective,
+        status: codes::word_at(part, catalogue::AT_10102 as usize),
+        actual: actual,
+        faults: f,
+    }
+}
+
+fn put_word(part: &mut [u8], at: usize, x: u16)
+    ensures { λ r. ⌜ now (part .exit) ≡ putWord at x (now (part .entry)) ⌝ }
+{
+    codes::put_number(part, at, 2, x as u32);
+}
+
+fn put_speed(part: &mut [u8], at: usize, v: N2)
+    ensures { λ r. ⌜ now (part .exit) ≡ putSpeed at v (now (part .entry)) ⌝ }
+{
+    put_word(part, at, codes::bits16(v.0));
+}
+
+// The codes of every situation; nothing where they do not all fit.
+fn put_codes(part: &mut [u8], b: [u16; drive::faults::BUFFER])
+    ensures { λ r. ⌜ now (part .exit) ≡ put (now (part .entry)) (offsetOf 947) (writeAll (word 2 .write) b) ⌝ }
+{
+    if part.len() < catalogue::AT_965 as usize {
+        return;
+    }
+    let mut i: usize = 0;
+    while i < drive::faults::BUFFER {
+        put_word(part, catalogue::AT_947 as usize + i * 2, b[i]);
+        i += 1;
+    }
+}
+
+fn put_faults(part: &mut [u8], f: Faults)
+    ensures { λ r. ⌜ now (part .exit) ≡ putFaults f (now (part .entry)) ⌝ }
+{
+    let b = f.buffer;
+    put_word(part, catalogue::AT_944 as usize, f.counter);
+    put_codes(part, b);
+}
+
+// The part with another drive record.
+pub fn store(part: &mut [u8], d: Drive)
+    ensures { λ r. ⌜ now (part .exit) ≡ putDrive d (now (part .entry)) ⌝ }
+{
+    let s = d.state;
+    let setpoint = d.setpoint;
+    let effective = d.effective;
+    let actual = d.actual;
+    let f = d.faults;
+    codes::put_number(part, super::STATE, 1, number_of(s) as u32);
+    put_word(part, catalogue::AT_10100 as usize, d.word);
+    put_speed(part, catalogue::AT_10101 as usize, setpoint);
+    put_speed(part, super::EFFECTIVE, effective);
+    put_word(part, catalogue::AT_10102 as usize, d.status);
+    put_speed(part, catalogue::AT_10103 as usize, actual);
+    put_faults(part, f);
+}
+
+// PNU 10111, the reference speed.
+pub fn reference(part: &[u8]) -> u16
+    ensures { λ r. ⌜ r ≡ numberAt 2 (now (part .entry)) (offsetOf 10111) ⌝ }
+{
+    codes::word_at(part, catalogue::AT_10111 as usize)
+}
+
+// PNU 30002, the window of bit 8 of ZSW1.
+pub fn window(part: &[u8]) -> u16
+    ensures { λ r. ⌜ r ≡ numberAt 2 (now (part .entry)) (offsetOf 30002) ⌝ }
+{
+    codes::word_at(part, catalogue::AT_30002 as usize)
+}
+
+// PNU 30003, the threshold of bit 10 of ZSW1.
+pub fn threshold(part: &[u8]) -> u16
+    ensures { λ r. ⌜ r ≡ numberAt 2 (now (part .entry)) (offsetOf 30003) ⌝ }
+{
+    codes::word_at(part, catalogue::AT_30003 as usize)
+}

@@ -1,0 +1,44 @@
+// Runs of bytes in a slice: copied, cleared, and tested for 0.
+ghost use mathlib.Core.Path.{_≡_};
+ghost use Prim.Native.Nat.{_+_, _≤_};
+ghost use lib.ListN.{length, replicate};
+ghost use Rattle.codes.specs.Number.{put};
+ghost use Rattle.drive.specs.Faults.{zeros};
+
+// Copies `from` to the bytes at `at`, where there is room.
+pub(crate) fn copy_bytes(out: &mut [u8], at: usize, from: &[u8])
+    requires { ⌜ at + length (now from) ≤ length (now out) ⌝ }
+    ensures { λ r. ⌜ now (out .exit) ≡ put (now (out .entry)) at (now (from .entry)) ⌝ }
+{
+    let mut i: usize = 0;
+    while i < from.len() {
+        out[at + i] = from[i];
+        i += 1;
+    }
+}
+
+// Clears the n bytes at `at`, which stand in the slice.
+pub(crate) fn clear_bytes(out: &mut [u8], at: usize, n: usize)
+    requires { ⌜ at + n ≤ length (now out) ⌝ }
+    ensures { λ r. ⌜ now (out .exit) ≡ put (now (out .entry)) at (replicate n 0) ⌝ }
+{
+    let mut i: usize = 0;
+    while i < n {
+        out[at + i] = 0;
+        i += 1;
+    }
+}
+
+// Whether every byte is 0, by their sum: no early exit, so that many bytes are added at a time.
+pub(crate) fn is_clear(s: &[u8]) -> bool
+    requires { ⌜ length (now s) ≤ 65536 ⌝ }
+    ensures { λ r. ⌜ r ≡ zeros (now (s .entry)) ⌝ }
+{
+    let mut sum: u32 = 0;
+    let mut i: usize = 0;
+    while i < s.len() {
+        sum += s[i] as u32;
+        i += 1;
+    }
+    sum == 0
+}
