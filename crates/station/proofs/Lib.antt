@@ -1,0 +1,13 @@
+pub mod Answers
+pub mod Fresh
+pub mod Cycles
+pub mod Outcome
+pub mod Judged
+pub mod Frames
+pub mod Windows
+pub mod Runs
+pub mod Isolation
+pub mod Sizes
+pub mod Refusals
+pub mod Stays
+pub mod Worked

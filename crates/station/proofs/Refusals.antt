@@ -1,0 +1,187 @@
+-- Every number but 0 settles the answer and leaves the station as it was; a block that is foreign or not readable is refused.
+use mathlib.Core.Path.{_≡_, refl, sym, ap, _∙_}
+use mathlib.Core.Bool.{Bool, true, false, cond, not, _&&_, _||_, true≢false}
+use mathlib.Core.List.{List, [], _∷_}
+use mathlib.Core.Logic.{_⊎_, inl, inr}
+use Prim.Native.Nat.{ℕ, zero, suc, _+_, _-_, _*_, _≤_, _<_}
+use native.Mathlib.Omega.{arith}
+use native.Mathlib.Nat.{zero-add}
+use lib.Dec.{eqb, ltb, leb, lit<, lit≤, eqb·suc-zero}
+use lib.ListN.{length, drop, length-take}
+use borrow.Author.Tests.{lt-ltb, ltb-false, eqb-true, not-true}
+use Rattle.codes.specs.Code.{readable}
+use Rattle.codes.proofs.Put.{put-fits, put-none}
+use Rattle.blocks.specs.Block.{blockLimit}
+use Rattle.blocks.specs.Request.{request}
+use Rattle.blocks.specs.Place.{headerOf}
+use Rattle.part.specs.Layout.{partSize, responseAt, waitingLength, responseBytes, waiting}
+use Rattle.part.specs.WellFormed.{wellFormed}
+use Rattle.station.specs.Parts.{farms, stationSize, partOf, withPart, refusal}
+use Rattle.station.specs.Frame.{isWrite, isRead, slot, index, lengthByte, lengthFits, blockOf, refusalOf, codeOf, refusedReply, replyOf, frameAnswer, frameReply, framePart}
+use Rattle.station.specs.Cycle.{cycleRefusal, cycleAnswer, cyclePart}
+use Rattle.station.specs.Isolation.{answer, after}
+use Rattle.station.specs.Calls.{Call, cycle, frame, kinds, owner, answers, leaves}
+use Rattle.station.specs.Laws.{numberIn, refusedBy, Refuses, Refused, EmptyReply, ReplyStands, ForeignAxis, UnreadableBlock}
+use Rattle.station.proofs.Isolation.{took-answer, took, gave-answer, gave}
+use Rattle.station.proofs.Sizes.{one-of}
+use Rattle.station.proofs.Windows.{with-same}
+
+-- the number by which the work on a part is refused
+abbrev pub partRefusal : Call → List ℕ → ℕ
+partRefusal (cycle axis i) p = cycleRefusal axis i p
+partRefusal (frame farm f m) p = refusalOf farm f (length m) p
+
+part-answer : (c : Call) (p : List ℕ) (n : ℕ) → partRefusal c p ≡ suc n → answers c p ≡ refusedBy c (suc n)
+unfolding cycleAnswer frameAnswer frameReply
+part-answer (cycle axis i) p n e = rw (e, eqb·suc-zero n)
+part-answer (frame farm f m) p n e = rw (e, eqb·suc-zero n)
+
+part-kept : (c : Call) (p : List ℕ) (n : ℕ) → partRefusal c p ≡ suc n → leaves c p ≡ p
+unfolding cyclePart framePart
+part-kept (cycle axis i) p n e = rw (e, eqb·suc-zero n)
+part-kept (frame farm f m) p n e = rw (e, eqb·suc-zero n)
+
+-- a part whose work is done
+part-done : (c : Call) (p : List ℕ) → partRefusal c p ≡ 0 → numberIn (answers c p) ≡ 0
+unfolding cycleAnswer frameAnswer
+part-done (cycle axis i) p e = rw e
+part-done (frame farm f m) p e = e
+
+pub number-by : (c : Call) (n : ℕ) → numberIn (refusedBy c n) ≡ n
+number-by (cycle axis i) n = refl
+number-by (frame farm f m) n = refl
+
+-- an empty reply
+quiet : (f : List ℕ) (n : ℕ) → n < 5 → refusedReply f n ≡ []
+quiet f n h = rw (lt-ltb n 5 h)
+
+-- farm and size refused
+refusal-small : (k size : ℕ) → refusal k size < 5
+unfolding refusal
+refusal-small k size =
+    one-of (λ (n : ℕ). n < 5) (not (leb 1 k && leb k farms)) _ _ (lit< tt)
+    (one-of (λ (n : ℕ). n < 5) (not (eqb size stationSize)) _ _ (lit< tt) (lit< tt))
+
+early-answer : (c : Call) (s : List ℕ) (n : ℕ) → refusal (owner c) (length s) ≡ suc n → answer kinds c s ≡ refusedBy c (suc n)
+early-answer (cycle axis i) s n e = gave-answer kinds (cycle axis i) s n e
+early-answer (frame farm f m) s n e =
+    gave-answer kinds (frame farm f m) s n e ∙ rw (quiet f (suc n) (omega (arith, refusal-small farm (length s))), put-none m 0)
+
+-- a call is refused, for its farm or size or for its part, or it is done
+pub data Way (c : Call) (s : List ℕ) : Type 0 where
+  refused : (n : ℕ) → (refusal (owner c) (length s) ≡ suc n) ⊎ ((refusal (owner c) (length s) ≡ 0) × (partRefusal c (partOf (owner c) s) ≡ suc n))
+      → answer kinds c s ≡ refusedBy c (suc n) → after kinds c s ≡ s → Way c s
+  done : numberIn (answer kinds c s) ≡ 0 → partRefusal c (partOf (owner c) s) ≡ 0 → Way c s
+
+pub way : (c : Call) (s : List ℕ) → Way c s
+way c s = go (refusal (owner c) (length s)) refl (partRefusal c (partOf (owner c) s)) refl
+  where
+    go : (r : ℕ) → refusal (owner c) (length s) ≡ r → (n : ℕ) → partRefusal c (partOf (owner c) s) ≡ n → Way c s
+    go (suc r) e n d = refused r (inl e) (early-answer c s r e) (gave kinds c s r e)
+    go zero e (suc n) d =
+        refused n (inr (e, d)) (took-answer kinds c s e ∙ part-answer c (partOf (owner c) s) n d)
+        (took kinds c s e
+        ∙ (ap (λ (l : List ℕ). withPart (owner c) l s) (part-kept c (partOf (owner c) s) n d) ∙ with-same ((owner c - 1) * partSize) partSize s))
+    go zero e zero d = done (ap numberIn (took-answer kinds c s e) ∙ part-done c (partOf (owner c) s) d) d
+
+pub is-refused : Refused
+is-refused c s isnt = go (way c s)
+  where
+    go : Way c s → Refuses c s
+    go (refused n why a k) =
+        record { number = isnt; answered = a ∙ ap (refusedBy c) (sym (ap numberIn a ∙ number-by c (suc n))); kept = k }
+    go (done z d) = absurd (isnt z)
+
+pub empty-reply : EmptyReply
+empty-reply k f m s n e low high =
+    let z = is-refused (frame k f m) s (λ z. omega arith) in
+    z .answered ∙ rw (e, quiet f n (omega arith), put-none m 0)
+
+-- a test decides between two
+by-test : (P : ℕ → Type 0) (b : Bool) (n r : ℕ) → (b ≡ true → P n) → (b ≡ false → P r) → P (cond b n r)
+by-test P true n r yes-n no-r = yes-n refl
+by-test P false n r yes-n no-r = no-r refl
+
+-- the block of a write that is worked
+pub record Mine (k : ℕ) (f : List ℕ) : Type 0 where
+  pub reads : readable blockLimit request (blockOf f) ≡ true
+  pub axis : headerOf (blockOf f) .axis ≡ k
+
+-- what each number of a frame says
+pub data Says (k : ℕ) (f : List ℕ) (m : ℕ) (p : List ℕ) (n : ℕ) : Type 0 where
+  ill-formed : n ≡ 2 → wellFormed k p ≡ false → Says k f m p n
+  small : n ≡ 3 → Says k f m p n
+  framed : 4 ≤ n → n ≤ 11 → 244 ≤ m → Says k f m p n
+  worked : n ≡ 0 → 244 ≤ m → (isWrite f ≡ true → Mine k f) → Says k f m p n
+
+of-write : (w b : Bool) → w && not b ≡ false → w ≡ true → b ≡ true
+of-write w true e is = refl
+of-write w false e is = absurd (true≢false (sym (rw is) ∙ e))
+
+-- a test of the frame itself
+framing : (k : ℕ) (f : List ℕ) (m : ℕ) (p : List ℕ) → 244 ≤ m
+    → (b : Bool) (n r : ℕ) → 4 ≤ n → n ≤ 11 → (b ≡ false → Says k f m p r) → Says k f m p (cond b n r)
+framing k f m p room b n r low high more = by-test (Says k f m p) b n r (λ e. framed low high room) more
+
+pub says : (k : ℕ) (f : List ℕ) (m : ℕ) (p : List ℕ) → Says k f m p (refusalOf k f m p)
+unfolding refusalOf
+says k f m p =
+    by-test (Says k f m p) (not (wellFormed k p)) 2 _ (λ e. ill-formed refl (not-true (wellFormed k p) e)) (λ two.
+    by-test (Says k f m p) (ltb m 244) 3 _ (λ e. small refl) (λ three.
+    let next = framing k f m p (ltb-false m 244 three) in
+    next (ltb (length f) 4 || not (isWrite f || isRead f)) 4 _ (lit≤ tt) (lit≤ tt) (λ four.
+    next (not (eqb (slot f) 0)) 5 _ (lit≤ tt) (lit≤ tt) (λ five.
+    next (not (eqb (index f) 47)) 6 _ (lit≤ tt) (lit≤ tt) (λ six.
+    next (not (lengthFits f)) 7 _ (lit≤ tt) (lit≤ tt) (λ seven.
+    next (isWrite f && not (eqb (waitingLength p) 0) || isRead f && eqb (waitingLength p) 0) 8 _ (lit≤ tt) (lit≤ tt) (λ eight.
+    next (isRead f && ltb (lengthByte f) (waitingLength p)) 9 _ (lit≤ tt) (lit≤ tt) (λ nine.
+    next (isWrite f && not (readable blockLimit request (blockOf f))) 10 _ (lit≤ tt) (lit≤ tt) (λ ten.
+    next (isWrite f && not (eqb (headerOf (blockOf f) .axis) k)) 11 0 (lit≤ tt) (lit≤ tt) (λ eleven.
+    worked refl (ltb-false m 244 three) (λ is.
+    record {
+      reads = of-write (isWrite f) (readable blockLimit request (blockOf f)) ten is;
+      axis = eqb-true (headerOf (blockOf f) .axis) k (of-write (isWrite f) (eqb (headerOf (blockOf f) .axis) k) eleven is);
+    })))))))))))
+
+-- a write whose block is not the farm's to write
+not-mine : (k : ℕ) (f m s : List ℕ) → isWrite f ≡ true → (Mine k f → ⊥) → Refuses (frame k f m) s
+not-mine k f m s is isnt = is-refused (frame k f m) s (λ z. go z (way (frame k f m) s))
+  where
+    works : (n : ℕ) → n ≡ 0 → Says k f (length m) (partOf k s) n → ⊥
+    works n z (ill-formed e w) = omega arith
+    works n z (small e) = omega arith
+    works n z (framed low high room) = omega arith
+    works n z (worked e room my) = isnt (my is)
+
+    go : numberIn (answer kinds (frame k f m) s) ≡ 0 → Way (frame k f m) s → ⊥
+    go z (refused n why a same) = let e : _≡_ {A = ℕ} 0 (suc n) = sym z ∙ (ap numberIn a ∙ number-by (frame k f m) (suc n)) in omega arith
+    go z (done e d) = works (refusalOf k f (length m) (partOf k s)) d (says k f (length m) (partOf k s))
+
+pub foreign-axis : ForeignAxis
+foreign-axis k f m s is other = not-mine k f m s is (λ y. other (y .axis))
+
+pub unreadable-block : UnreadableBlock
+unreadable-block k f m s is unread = not-mine k f m s is (λ y. true≢false (sym (y .reads) ∙ unread))
+
+-- a reply never fills more than 244 bytes
+waiting-bound : (p : List ℕ) → length (waiting p) ≤ blockLimit
+waiting-bound p = omega (arith, length-take (waitingLength p) (responseBytes p), length-take blockLimit (drop responseAt p))
+
+reply-bound : (f p : List ℕ) (n : ℕ) → length (replyOf f p n) ≤ 244
+reply-bound f p n =
+    one-of Short (eqb n 0) _ _
+    (one-of Short (isWrite f) _ _ (lit≤ tt) (omega (arith, waiting-bound p)))
+    (one-of Short (ltb n 5) [] (cond (isWrite f) 0xDF 0xDE ∷ 0x80 ∷ codeOf n ∷ 0 ∷ []) (lit≤ tt) (lit≤ tt))
+  where
+    Short : List ℕ → Type 0
+    Short l = length l ≤ 244
+
+pub reply-stands : ReplyStands
+unfolding frameReply
+reply-stands k f m p = put-fits m 0 (replyOf f p (refusalOf k f (length m) p)) (fit (refusalOf k f (length m) p) (says k f (length m) p)) ∙ rw zero-add
+  where
+    fit : (n : ℕ) → Says k f (length m) p n → 0 + length (replyOf f p n) ≤ length m
+    fit n (ill-formed e w) = rw e (omega arith)
+    fit n (small e) = rw e (omega arith)
+    fit n (framed low high room) = omega (arith, reply-bound f p n)
+    fit n (worked e room my) = omega (arith, reply-bound f p n)

@@ -1,0 +1,106 @@
+-- What callers may cite of every call on a station in place of its text: from document 01, "Frames and refusal numbers", and demands
+-- 1 and 2. Each is a statement here and a proof in proofs/.
+use mathlib.Core.Path.{_≡_}
+use mathlib.Core.Bool.{true, false}
+use mathlib.Core.List.{List, _++_}
+use Prim.Native.Nat.{ℕ, _≤_, _<_, _^_}
+use lib.Signed.{mag}
+use lib.ListN.{length, drop}
+use Rattle.codes.specs.Code.{AllOf, readable}
+use Rattle.codes.specs.Number.{put}
+use Rattle.blocks.specs.Block.{blockLimit}
+use Rattle.blocks.specs.Request.{request}
+use Rattle.blocks.specs.Place.{headerOf}
+use Rattle.part.specs.Fresh.{freshPart}
+use Rattle.part.specs.WellFormed.{wellFormed}
+use Rattle.station.specs.Parts.{farms, stationSize, partOf, freshStation}
+use Rattle.station.specs.Frame.{isWrite, blockOf, refusalOf, refusedReply, replyOf, frameReply}
+use Rattle.station.specs.Cycle.{Sent, refusedCycle}
+use Rattle.station.specs.Runs.{runAnswers, runEnd}
+use Rattle.station.specs.Isolation.{Isolated, answer, after, machine}
+use Rattle.station.specs.Calls.{Call, cycle, frame, Answer, toCycle, toFrame, owner, kinds}
+
+-- Demand 2 for the calls of today
+abbrev pub IsolatedStation : Type 0
+IsolatedStation = Isolated kinds
+
+-- one call alone: it leaves the size of the memory, and every part but its owner's
+abbrev pub KeepsSize : Type 0
+KeepsSize = (c : Call) (s : List ℕ) → length (after kinds c s) ≡ length s
+
+abbrev pub KeepsOthers : Type 0
+KeepsOthers =
+    (c : Call) (s : List ℕ) → length s ≡ stationSize → (k : ℕ) → 1 ≤ k → k ≤ farms → (owner c ≡ k → ⊥)
+    → partOf k (after kinds c s) ≡ partOf k s
+
+-- the number that an answer gives; 0 where the call was done
+abbrev pub numberIn : Answer → ℕ
+numberIn (toCycle a) = a .number
+numberIn (toFrame a m) = a .number
+
+-- "a refused cycle answers its number and zeros"; a refused frame puts its reply, and "0 elements are stored"
+abbrev pub refusedBy : Call → ℕ → Answer
+refusedBy (cycle axis i) n = toCycle (refusedCycle n)
+refusedBy (frame farm f m) n = toFrame (record { length = length (refusedReply f n); stored = 0; number = n }) (put m 0 (refusedReply f n))
+
+-- a call is refused: its number is not 0, its answer follows from that number, and "the whole station" stays unchanged
+pub record Refuses (c : Call) (s : List ℕ) : Type 0 where
+  pub number : numberIn (answer kinds c s) ≡ 0 → ⊥
+  pub answered : answer kinds c s ≡ refusedBy c (numberIn (answer kinds c s))
+  pub kept : after kinds c s ≡ s
+
+-- every number but 0 is a refusal
+abbrev pub Refused : Type 0
+Refused = (c : Call) (s : List ℕ) → (numberIn (answer kinds c s) ≡ 0 → ⊥) → Refuses c s
+
+-- numbers 1 to 4: "empty reply", and the reply memory is as it was
+abbrev pub EmptyReply : Type 0
+EmptyReply =
+    (k : ℕ) (f m s : List ℕ) (n : ℕ) → numberIn (answer kinds (frame k f m) s) ≡ n → 1 ≤ n → n ≤ 4
+    → answer kinds (frame k f m) s ≡ toFrame (record { length = 0; stored = 0; number = n }) m
+
+-- a reply stands at the start of the reply memory, whole. "Bytes past the reply .. stay unchanged"
+abbrev pub ReplyStands : Type 0
+ReplyStands =
+    (k : ℕ) (f m p : List ℕ)
+    → let reply = replyOf f p (refusalOf k f (length m) p) in frameReply k f m p ≡ reply ++ drop (length reply) m
+
+-- Demand 1: "a frame for another farm's axis changes no stored element", whatever else is wrong with it
+abbrev pub ForeignAxis : Type 0
+ForeignAxis = (k : ℕ) (f m s : List ℕ) → isWrite f ≡ true → (headerOf (blockOf f) .axis ≡ k → ⊥) → Refuses (frame k f m) s
+
+-- nor does a block that is not readable
+abbrev pub UnreadableBlock : Type 0
+UnreadableBlock = (k : ℕ) (f m s : List ℕ) → isWrite f ≡ true → readable blockLimit request (blockOf f) ≡ false → Refuses (frame k f m) s
+
+-- every part of a fresh station is fresh
+abbrev pub FreshParts : Type 0
+FreshParts = (s : List ℕ) → length s ≡ stationSize → (k : ℕ) → 1 ≤ k → k ≤ farms → partOf k (freshStation s) ≡ freshPart
+
+-- a station of the right size whose every part is well-formed
+pub record WellFormedStation (s : List ℕ) : Type 0 where
+  pub size : length s ≡ stationSize
+  pub parts : (k : ℕ) → 1 ≤ k → k ≤ farms → wellFormed k (partOf k s) ≡ true
+
+-- the words of a cycle are numbers of 16 bits, as the call has them
+pub record SentFits (i : Sent) : Type 0 where
+  pub stw1 : i .stw1 < 2 ^ 16
+  pub nsoll : mag (i .nsoll) < 2 ^ 15
+  pub nist : mag (i .nist) < 2 ^ 15
+  pub fault : i .fault < 2 ^ 16
+
+abbrev pub CallFits : Call → Type 0
+CallFits (cycle axis i) = SentFits i
+CallFits (frame farm f m) = Unit {0}
+
+-- every call keeps every part well-formed
+abbrev pub StaysWellFormed : Type 0
+StaysWellFormed = (c : Call) (s : List ℕ) → CallFits c → WellFormedStation s → WellFormedStation (after kinds c s)
+
+-- so, whatever is called on a fresh station, its parts are well-formed and no call is refused by number 2
+pub record FromFresh (cs : List Call) (s : List ℕ) : Type 0 where
+  pub ends : WellFormedStation (runEnd (machine kinds) cs (freshStation s))
+  pub never2 : AllOf (λ a. numberIn a ≡ 2 → ⊥) (runAnswers (machine kinds) cs (freshStation s))
+
+abbrev pub NeverIllFormed : Type 0
+NeverIllFormed = (cs : List Call) (s : List ℕ) → AllOf CallFits cs → length s ≡ stationSize → FromFresh cs s

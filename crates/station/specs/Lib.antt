@@ -1,0 +1,9 @@
+pub mod Parts
+pub mod Frame
+pub mod Cycle
+pub mod Runs
+pub mod Isolation
+pub mod Calls
+pub mod Laws
+pub mod Worked
+pub mod Inner

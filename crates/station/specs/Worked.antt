@@ -1,0 +1,74 @@
+-- Document 01, "Journal program" and "Worked by hand": P1 to P8, the calls on a fresh station in order, and what each answers.
+use mathlib.Core.Path.{_≡_}
+use mathlib.Core.List.{List, [], _∷_, _++_, map}
+use Prim.Native.Nat.{ℕ, _-_}
+use lib.IntN.{pos}
+use lib.ListN.{length, replicate}
+use Rattle.station.specs.Parts.{stationSize, freshStation}
+use Rattle.station.specs.Runs.{runAnswers}
+use Rattle.station.specs.Isolation.{machine}
+use Rattle.station.specs.Calls.{Call, cycle, frame, Answer, toCycle, toFrame, kinds}
+
+pub record Worked : Type 0 where
+  pub call : Call
+  pub answer : Answer
+
+-- a cycle on axis 1, all unnamed fields 0, and its line: state, ZSW1, rpm
+abbrev pub cycleLine : ℕ → ℕ → ℕ → ℕ → ℕ → Worked
+cycleLine stw1 nsoll state status rpm =
+    record {
+      call = cycle 1 (record { flags = 0; stw1 = stw1; nsoll = pos nsoll; nist = pos 0; fault = 0 });
+      answer = toCycle (record { rpm = pos rpm; status = status; state = state; number = 0 });
+    }
+
+-- a frame with 244 bytes of reply memory, and its line: elements stored, and the reply, past which nothing changes; and its number
+abbrev pub frameLine : ℕ → List ℕ → ℕ → List ℕ → ℕ → Worked
+frameLine farm f stored reply number =
+    record {
+      call = frame farm f (replicate 244 0);
+      answer = toFrame (record { length = length reply; stored = stored; number = number }) (reply ++ replicate (244 - length reply) 0);
+    }
+
+-- "The write frame: 5F 00 2F 10 07 02 01 01 10 02 75 31 00 00 42 02 03 E8 0B B9": marks 1000 and 3001
+abbrev pub marks : List ℕ
+marks =
+    0x5F ∷ 0x00 ∷ 0x2F ∷ 0x10 ∷ 0x07 ∷ 0x02 ∷ 0x01 ∷ 0x01 ∷ 0x10 ∷ 0x02 ∷ 0x75 ∷ 0x31 ∷ 0x00 ∷ 0x00 ∷ 0x42 ∷ 0x02 ∷ 0x03 ∷ 0xE8
+    ∷ 0x0B ∷ 0xB9 ∷ []
+
+-- "fetches with F0"
+abbrev pub fetch : List ℕ
+fetch = 0x5E ∷ 0x00 ∷ 0x2F ∷ 0xF0 ∷ []
+
+-- an address of all 947, and what it reads where no situation has a code
+abbrev pub all947 : List ℕ
+all947 = 0x10 ∷ 0x20 ∷ 0x03 ∷ 0xB3 ∷ 0x00 ∷ 0x00 ∷ []
+
+abbrev pub empty947 : List ℕ
+empty947 = 0x42 ∷ 0x20 ∷ replicate 64 0
+
+-- "four reads of all 947 (the fourth gets 0x15; block length 206)"
+abbrev pub reads : List ℕ
+reads = 0x5F ∷ 0x00 ∷ 0x2F ∷ 0x1C ∷ 0x08 ∷ 0x01 ∷ 0x01 ∷ 0x04 ∷ all947 ++ all947 ++ all947 ++ all947
+
+abbrev pub fourth : List ℕ
+fourth =
+    0x5E ∷ 0x00 ∷ 0x2F ∷ 206 ∷ 0x08 ∷ 0x81 ∷ 0x01 ∷ 0x04 ∷ empty947 ++ empty947 ++ empty947 ++ (0x44 ∷ 0x01 ∷ 0x00 ∷ 0x15 ∷ [])
+
+abbrev pub worked : List Worked
+worked =
+    cycleLine 0x047E 0 2 0x0331 0
+    ∷ cycleLine 0x047F 0 3 0x0333 0
+    ∷ cycleLine 0x047F 0x2000 4 0x0237 750
+    ∷ cycleLine 0x047D 0 1 0x0360 0
+    ∷ frameLine 1 marks 1 (0x5F ∷ 0x00 ∷ 0x2F ∷ 0x10 ∷ []) 0
+    ∷ frameLine 1 fetch 0 (0x5E ∷ 0x00 ∷ 0x2F ∷ 0x08 ∷ 0x07 ∷ 0x82 ∷ 0x01 ∷ 0x01 ∷ 0x44 ∷ 0x01 ∷ 0x00 ∷ 0x02 ∷ []) 0
+    ∷ frameLine 2 marks 0 (0xDF ∷ 0x80 ∷ 0xB6 ∷ 0x00 ∷ []) 11
+    ∷ frameLine 1 reads 0 (0x5F ∷ 0x00 ∷ 0x2F ∷ 0x1C ∷ []) 0
+    ∷ frameLine 1 fetch 0 fourth 0
+    ∷ []
+
+-- whatever stood in the memory before
+abbrev pub WorkedByHand : Type 0
+WorkedByHand =
+    (s : List ℕ) → length s ≡ stationSize
+    → runAnswers (machine kinds) (map (λ w. w .call) worked) (freshStation s) ≡ map (λ w. w .answer) worked

@@ -1,0 +1,76 @@
+// A control cycle on the part of its axis.
+ghost use mathlib.Core.Path.{_≡_};
+ghost use Rattle.station.specs.Cycle.{inputOf, refusedCycle, cycled, cycleAnswer, cyclePart};
+use super::Cycled;
+use drive::Answer;
+use drive::Input;
+use drive::N2;
+
+// A refused cycle answers its number and zeros.
+pub(crate) fn refused_cycle(n: u8) -> Cycled
+    ensures { λ r. ⌜ r ≡ refusedCycle n ⌝ }
+{
+    Cycled {
+        rpm: 0,
+        status: 0,
+        state: 0,
+        number: n,
+    }
+}
+
+// What a cycle is given, with the axis's parameters.
+fn input_of(part: &[u8], flags: u32, stw1: u16, nsoll: i16, nist: i16, fault: u16) -> Input
+    ensures { λ r. ⌜ r ≡ inputOf (record { flags = flags; stw1 = stw1; nsoll = nsoll; nist = nist; fault = fault }) (now (part .entry)) ⌝ }
+{
+    Input {
+        standstill: flags / 1 % 2 == 1,
+        warning: flags / 2 % 2 == 1,
+        stw1: stw1,
+        nsoll: N2(nsoll),
+        nist: N2(nist),
+        fault: fault,
+        reference: part::reference(part),
+        window: part::window(part),
+        threshold: part::threshold(part),
+    }
+}
+
+fn answered(a: Answer) -> Cycled
+    ensures { λ r. ⌜ r ≡ cycled a ⌝ }
+{
+    let s = a.state;
+    let v = a.speed;
+    Cycled {
+        rpm: v.0,
+        status: a.status,
+        state: part::number_of(s),
+        number: 0,
+    }
+}
+
+// A cycle of the axis k.
+pub(crate) fn cycle_on(
+    part: &mut [u8],
+    k: u8,
+    flags: u32,
+    stw1: u16,
+    nsoll: i16,
+    nist: i16,
+    fault: u16,
+) -> Cycled
+    ensures { λ r. ⌜ r ≡ cycleAnswer k (record { flags = flags; stw1 = stw1; nsoll = nsoll; nist = nist; fault = fault }) (now (part .entry)) ⌝ }
+    ensures { λ r. ⌜ now (part .exit) ≡ cyclePart k (record { flags = flags; stw1 = stw1; nsoll = nsoll; nist = nist; fault = fault }) (now (part .entry)) ⌝ }
+{
+    if !part::well_formed(part, k) {
+        return refused_cycle(2);
+    }
+    if 3 < flags {
+        return refused_cycle(12);
+    }
+    let i = input_of(part, flags, stw1, nsoll, nist, fault);
+    let c = drive::cycle_lent(part::load(part), i);
+    let d = c.drive;
+    let a = c.answer;
+    part::store(part, d);
+    answered(a)
+}

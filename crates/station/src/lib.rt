@@ -1,0 +1,126 @@
+// The station: 16 parts in memory that the caller lends, and the calls that a host makes on them.
+ghost use mathlib.Core.Path.{_≡_};
+ghost use Rattle.station.specs.Parts.{stationSize, refusal, freshNumber, freshStation};
+ghost use Rattle.station.specs.Isolation.{answer, after};
+ghost use Rattle.station.specs.Calls.{kinds, cycle, frame, toCycle, toFrame};
+
+mod cycle; // cycle.rt: a control cycle on the part of its axis
+mod frame; // frame.rt: a frame on the part of its farm
+mod judge; // judge.rt: the tests 2 to 9 of a frame
+mod reply; // reply.rt: what is written in the reply memory
+
+// What a cycle answers.
+#[repr(C)]
+pub struct Cycled {
+    pub rpm: i32,
+    pub status: u16,
+    pub state: u8,
+    pub number: u8,
+}
+
+// What a frame answers beside its reply: the reply's length, and how many elements were stored.
+#[repr(C)]
+pub struct Framed {
+    pub length: u16,
+    pub stored: u16,
+    pub number: u8,
+}
+
+// Farms, and axes.
+const FARMS: usize = 16;
+
+// Bytes of a station's memory.
+const STATION: usize = FARMS * part::SIZE;
+
+#[no_mangle]
+pub extern "C" fn llinkhiro_size() -> usize
+    ensures { λ r. ⌜ r ≡ stationSize ⌝ }
+{
+    STATION
+}
+
+// Numbers 1 and 2, for a farm or axis and the bytes of the memory that is lent; else 0.
+fn refused(k: u32, size: usize) -> u8
+    ensures { λ r. ⌜ r ≡ refusal k size ⌝ }
+{
+    if k == 0 {
+        return 1;
+    }
+    if FARMS < k as usize {
+        return 1;
+    }
+    if size != STATION {
+        return 2;
+    }
+    0
+}
+
+// Makes a fresh station.
+#[no_mangle]
+pub extern "C" fn llinkhiro_fresh(station: &mut [u8]) -> u8
+    ensures { λ r. ⌜ r ≡ freshNumber (now (station .entry)) ⌝ }
+    ensures { λ r. ⌜ now (station .exit) ≡ freshStation (now (station .entry)) ⌝ }
+{
+    if station.len() != STATION {
+        return 2;
+    }
+    let mut i: usize = 0;
+    while i < FARMS {
+        let a = i * part::SIZE;
+        let e = a + part::SIZE;
+        part::fresh(&mut station[a..e]);
+        i += 1;
+    }
+    0
+}
+
+// A control cycle of an axis.
+#[no_mangle]
+pub extern "C" fn llinkhiro_cycle(
+    station: &mut [u8],
+    axis: u32,
+    flags: u32,
+    stw1: u16,
+    nsoll: i16,
+    nist: i16,
+    fault: u16,
+) -> Cycled
+    ensures { λ r. ⌜ toCycle r ≡ answer kinds (cycle axis (record { flags = flags; stw1 = stw1; nsoll = nsoll; nist = nist; fault = fault })) (now (station .entry)) ⌝ }
+    ensures { λ r. ⌜ now (station .exit) ≡ after kinds (cycle axis (record { flags = flags; stw1 = stw1; nsoll = nsoll; nist = nist; fault = fault })) (now (station .entry)) ⌝ }
+{
+    let n = refused(axis, station.len());
+    if n != 0 {
+        return cycle::refused_cycle(n);
+    }
+    let a = (axis as usize - 1) * part::SIZE;
+    let e = a + part::SIZE;
+    cycle::cycle_on(
+        &mut station[a..e],
+        axis as u8,
+        flags,
+        stw1,
+        nsoll,
+        nist,
+        fault,
+    )
+}
+
+// A frame of a farm, answered in the reply memory.
+#[no_mangle]
+pub extern "C" fn llinkhiro_frame(
+    station: &mut [u8],
+    farm: u32,
+    f: &[u8],
+    reply: &mut [u8],
+) -> Framed
+    ensures { λ r. ⌜ toFrame r (now (reply .exit)) ≡ answer kinds (frame farm (now (f .entry)) (now (reply .entry))) (now (station .entry)) ⌝ }
+    ensures { λ r. ⌜ now (station .exit) ≡ after kinds (frame farm (now (f .entry)) (now (reply .entry))) (now (station .entry)) ⌝ }
+{
+    let n = refused(farm, station.len());
+    if n != 0 {
+        return reply::empty(n);
+    }
+    let a = (farm as usize - 1) * part::SIZE;
+    let e = a + part::SIZE;
+    frame::frame_on(&mut station[a..e], farm as u8, f, reply)
+}

@@ -1,0 +1,124 @@
+/*
+ * Llinkhiro: the logic of a PROFIdrive 4.1 station with 16 axes. Farm k owns axis k.
+ *
+ * Two things are done with a station: a control cycle for one axis (llinkhiro_cycle) and a DP-V1 frame from one farm
+ * (llinkhiro_frame). A third call makes it (llinkhiro_fresh). Link with libstation.a.
+ *
+ * MEMORY
+ *
+ * The library keeps nothing: no heap, no globals, no pointer after a call returns. All of a station is in one block of
+ * llinkhiro_size() bytes that the caller owns, of any alignment. Lend it, with its size, to every call. Its bytes may be
+ * saved, moved or copied between calls; what they mean is the library's, so change them by calls alone. Two stations are two
+ * blocks. The library takes no lock: calls on one station are made one at a time.
+ *
+ * Every pointer is valid for as many bytes as the size beside it says, also where that is 0 (no null pointers). The memories
+ * lent to one call (station, frame, reply) do not overlap. The library reads the frame and never writes it; it writes the
+ * station and the reply only as is said below.
+ *
+ * NUMBERS
+ *
+ * Every call answers a number: 0 where it was done, else why it was refused. The tests are made in the order of the numbers,
+ * so that the first reason is the one given. After a refusal the whole station is as it was before the call, and no element
+ * was stored. A response that waits is not lost by a refusal.
+ *
+ *    1  farm or axis is not 1 to 16
+ *    2  the station's memory is not of llinkhiro_size() bytes, or the caller's own part of it is not well-formed
+ *       (it was never made fresh, or was changed by other means than these calls)
+ *    3  reply memory of fewer than 244 bytes
+ *    4  frame of fewer than 4 bytes, or function byte neither 5E (read) nor 5F (write)
+ *    5  slot is not 0                                                           reply code B2
+ *    6  index is not 47                                                         B0
+ *    7  length byte over 240, or not the number of bytes after it
+ *       (nothing follows a read)                                                B1
+ *    8  a write while a response waits, or a read while none does               B5
+ *    9  a read that wants fewer bytes than wait                                 B7
+ *   10  block not readable                                                      B8
+ *   11  the block's axis is not the caller's                                    B6
+ *   12  cycle flags above 3
+ *
+ * llinkhiro_fresh gives 0 and 2; llinkhiro_cycle 0, 1, 2 and 12; llinkhiro_frame 0 to 11.
+ */
+#ifndef LLINKHIRO_H
+#define LLINKHIRO_H
+
+#include <stddef.h>
+#include <stdint.h>
+
+#ifdef __cplusplus
+extern "C" {
+#endif
+
+/* Bytes of a station's memory. Always the same number for one version of the library. */
+size_t llinkhiro_size(void);
+
+/*
+ * Makes the station fresh: every axis in state S1, all fault situations empty, no response waiting, parameters at their fresh
+ * values. What stood there before does not matter. Answers 0, or 2 where station_len is not llinkhiro_size(); then nothing
+ * is written.
+ */
+uint8_t llinkhiro_fresh(uint8_t *station, size_t station_len);
+
+/*
+ * What a cycle answers. Where it is refused, number is the refusal and all else is 0.
+ *   rpm     effective setpoint in revolutions per minute, cut toward zero
+ *   status  status word ZSW1
+ *   state   1, 2, 3, 4, 51 or 52 for S1, S2, S3, S4, S51, S52; 0 in a refused cycle only
+ *   number  0, or the refusal
+ */
+struct llinkhiro_cycled {
+    int32_t rpm;
+    uint16_t status;
+    uint8_t state;
+    uint8_t number;
+};
+
+/*
+ * One control cycle of an axis.
+ *   axis    1 to 16
+ *   flags   bit 0 standstill, bit 1 warning; above 3 is refused (12)
+ *   stw1    control word STW1
+ *   nsoll   NSOLL_A, the setpoint: 16384 is 100 %
+ *   nist    NIST_A, the actual speed: 16384 is 100 %
+ *   fault   fault code, 0 for none
+ * Changes the part of that axis and no other.
+ *
+ * Axis and flags (and farm, below) are 32 bits wide on purpose: a host's 257 is refused and does not become 1 on the way.
+ */
+struct llinkhiro_cycled llinkhiro_cycle(uint8_t *station, size_t station_len, uint32_t axis, uint32_t flags,
+                                        uint16_t stw1, int16_t nsoll, int16_t nist, uint16_t fault);
+
+/*
+ * What a frame answers beside its reply.
+ *   length  bytes of the reply: the first `length` bytes of the reply memory were written, and no others
+ *   stored  elements that a change stored; 0 for every other frame
+ *   number  0, or the refusal
+ */
+struct llinkhiro_framed {
+    uint16_t length;
+    uint16_t stored;
+    uint8_t number;
+};
+
+/*
+ * A frame of a farm.
+ *   farm    1 to 16: the farm that sent the frame
+ *   frame   the frame as received, frame_len bytes
+ *   reply   memory for the reply, at least 244 bytes, whatever the frame is
+ *
+ * A write, 5F 00 2F, length, block: the block is worked on the farm's axis. The reply is 5F 00 2F and the length byte of the
+ * write (4 bytes), and the response then waits in the station.
+ * A read, 5E 00 2F and the most bytes wanted: the reply is 5E 00 2F, the length of the waiting response, and the response
+ * (4 to 244 bytes in all). The response waits no more.
+ * Refused by 1 to 4: the reply is empty (length 0), and the reply memory is not touched.
+ * Refused by 5 to 11: the reply is DE (to a read) or DF (to a write), 80, the code in the table above, 00 (4 bytes).
+ *
+ * The bytes of the reply memory after the reply are as they were. Changes the part of that farm's axis and no other.
+ */
+struct llinkhiro_framed llinkhiro_frame(uint8_t *station, size_t station_len, uint32_t farm,
+                                        const uint8_t *frame, size_t frame_len, uint8_t *reply, size_t reply_len);
+
+#ifdef __cplusplus
+}
+#endif
+
+#endif
