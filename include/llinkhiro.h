@@ -108,7 +108,7 @@ struct llinkhiro_framed {
  * A write, 5F 00 2F, length, block: the block is worked on the farm's axis. The reply is 5F 00 2F and the length byte of the
  * write (4 bytes), and the response then waits in the station.
  * A read, 5E 00 2F and the most bytes wanted: the reply is 5E 00 2F, the length of the waiting response, and the response
- * (4 to 244 bytes in all). The response waits no more.
+ * (8 to 244 bytes in all). The response waits no more.
  * Refused by 1 to 4: the reply is empty (length 0), and the reply memory is not touched.
  * Refused by 5 to 11: the reply is DE (to a read) or DF (to a write), 80, the code in the table above, 00 (4 bytes).
  *

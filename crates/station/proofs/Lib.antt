@@ -11,3 +11,4 @@ pub mod Sizes
 pub mod Refusals
 pub mod Stays
 pub mod Worked
+pub mod Sends

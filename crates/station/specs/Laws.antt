@@ -2,15 +2,18 @@
 -- 1 and 2. Each is a statement here and a proof in proofs/.
 use mathlib.Core.Path.{_≡_}
 use mathlib.Core.Bool.{true, false}
-use mathlib.Core.List.{List, _++_}
+use mathlib.Core.List.{List, [], _∷_, _++_}
 use Prim.Native.Nat.{ℕ, _≤_, _<_, _^_}
 use lib.Signed.{mag}
 use lib.ListN.{length, drop}
-use Rattle.codes.specs.Code.{AllOf, readable}
+use Rattle.codes.specs.Code.{got, AllOf, readable}
 use Rattle.codes.specs.Number.{put}
 use Rattle.blocks.specs.Block.{blockLimit}
-use Rattle.blocks.specs.Request.{request}
+use Rattle.blocks.specs.Request.{Request, request}
+use Rattle.blocks.specs.Response.{response}
 use Rattle.blocks.specs.Place.{headerOf}
+use Rattle.part.specs.Layout.{partSize, waitingLength, waiting}
+use Rattle.access.specs.Work.{worked, outcomeOf}
 use Rattle.part.specs.Fresh.{freshPart}
 use Rattle.part.specs.WellFormed.{wellFormed}
 use Rattle.station.specs.Parts.{farms, stationSize, partOf, freshStation}
@@ -104,3 +107,15 @@ pub record FromFresh (cs : List Call) (s : List ℕ) : Type 0 where
 
 abbrev pub NeverIllFormed : Type 0
 NeverIllFormed = (cs : List Call) (s : List ℕ) → AllOf CallFits cs → length s ≡ stationSize → FromFresh cs s
+
+-- Demand 3: "every response we send is readable and is the one that demand 2 gives". What waits after a block is worked:
+abbrev pub WaitsAsRuled : Type 0
+WaitsAsRuled =
+    (k : ℕ) (s p : List ℕ) (r : Request) → length p ≡ partSize → readable blockLimit request s ≡ true → request .read s ≡ got r [] → r .axis ≡ k
+    → (waiting (outcomeOf k s p .part) ≡ response .write (worked r p .response)) × (readable blockLimit response (waiting (outcomeOf k s p .part)) ≡ true)
+
+-- and what is sent is what waits
+abbrev pub SendsWaiting : Type 0
+SendsWaiting =
+    (k : ℕ) (f m p : List ℕ) → refusalOf k f (length m) p ≡ 0 → isWrite f ≡ false
+    → frameReply k f m p ≡ put m 0 (0x5E ∷ 0 ∷ 0x2F ∷ waitingLength p ∷ waiting p)

@@ -1,0 +1,1157 @@
+/* A test of the station's C face against document 01. Every expected byte was worked out from 01 by hand.
+ *
+ * Each call is made on memories of its own with guard bytes of a known pattern on both sides, and everything is checked
+ * after it: the answer, the reply, the reply memory past it, the frame, the station and all guards. A refused call must
+ * leave the whole station as it was, an accepted one every part but its own.
+ *
+ *   test       names what failed, counts each group, and ends with `N checks, M failed`
+ *   test -v    names every check
+ */
+#define _DEFAULT_SOURCE /* for MAP_ANONYMOUS */
+
+#include "llinkhiro.h"
+
+#include <inttypes.h>
+#include <stdarg.h>
+#include <stdbool.h>
+#include <stdio.h>
+#include <stdlib.h>
+#include <string.h>
+#include <sys/mman.h>
+#include <unistd.h>
+
+enum { AXES = 16, GUARD = 64, REPLY = 244, LARGEST_BLOCK = 240 };
+
+/* ---- Checks -------------------------------------------------------------------------------------------------- */
+
+static bool loud;
+static unsigned long checks, failed;
+
+static void check(const char *name, const char *what, bool holds)
+{
+    checks++;
+    if (!holds)
+        failed++;
+    if (!holds || loud)
+        printf("%s %s: %s\n", holds ? "ok" : "FAILED", name, what);
+}
+
+static void check_number(const char *name, const char *what, int64_t got, int64_t wanted)
+{
+    check(name, what, got == wanted);
+    if (got != wanted)
+        printf("    got %" PRId64 ", wanted %" PRId64 "\n", got, wanted);
+}
+
+static void check_bytes(const char *name, const char *what, const uint8_t *got, const uint8_t *wanted, size_t len)
+{
+    size_t same = 0;
+
+    while (same < len && got[same] == wanted[same])
+        same++;
+    check(name, what, same == len);
+    if (same < len)
+        printf("    byte %zu: got %02X, wanted %02X\n", same, (unsigned)got[same], (unsigned)wanted[same]);
+}
+
+/* A check's name made of numbers; good until the next one is made. */
+static const char *named(const char *format, ...)
+{
+    static char name[160];
+    va_list numbers;
+
+    va_start(numbers, format);
+    vsnprintf(name, sizeof name, format, numbers);
+    va_end(numbers);
+    return name;
+}
+
+/* ---- Bytes --------------------------------------------------------------------------------------------------- */
+
+struct bytes {
+    size_t len;
+    uint8_t at[320];
+};
+
+/* Adds the bytes of a hex text. */
+static void add(struct bytes *bytes, const char *text)
+{
+    char *end;
+
+    for (unsigned long byte = strtoul(text, &end, 16); end != text; byte = strtoul(text, &end, 16)) {
+        if (bytes->len == sizeof bytes->at)
+            abort();
+        bytes->at[bytes->len++] = (uint8_t)byte;
+        text = end;
+    }
+}
+
+static void add_times(struct bytes *bytes, unsigned times, const char *text)
+{
+    for (unsigned i = 0; i < times; i++)
+        add(bytes, text);
+}
+
+static struct bytes hex(const char *text)
+{
+    struct bytes bytes = { 0, { 0 } };
+
+    add(&bytes, text);
+    return bytes;
+}
+
+/* ---- Lent memory --------------------------------------------------------------------------------------------- */
+
+struct memory {
+    uint8_t *all;
+    size_t before; /* guard bytes, then `len` bytes that are lent, then guard bytes */
+    size_t len;
+    size_t after;
+    void *pages; /* NULL where malloc gave it */
+    size_t pages_len;
+};
+
+/* Where lent memory stands: between guard bytes; bare, for a checker of memory to watch; or against a page that cannot
+ * be touched, so that a read or a write outside ends the program there and then (`test -v` shows how far it came). */
+static enum placing { GUARDED, BARE, FENCED_ABOVE, FENCED_BELOW } placing;
+static size_t offset; /* bytes from an aligned address to the lent memory */
+
+static void stop_unless(bool holds)
+{
+    if (holds)
+        return;
+    fprintf(stderr, "no memory for the test\n");
+    exit(EXIT_FAILURE);
+}
+
+static void *memory_or_stop(size_t len)
+{
+    void *got = malloc(len == 0 ? 1 : len);
+
+    stop_unless(got != NULL);
+    return got;
+}
+
+/* Pages that may be touched between two that may not. */
+static uint8_t *fenced(struct memory *lent)
+{
+    size_t page = (size_t)sysconf(_SC_PAGESIZE), inner = (lent->len + page) / page * page;
+
+    lent->pages_len = inner + 2 * page;
+    lent->pages = mmap(NULL, lent->pages_len, PROT_NONE, MAP_PRIVATE | MAP_ANONYMOUS, -1, 0);
+    stop_unless(lent->pages != MAP_FAILED);
+    uint8_t *first = (uint8_t *)lent->pages + page;
+    stop_unless(mprotect(first, inner, PROT_READ | PROT_WRITE) == 0);
+    return placing == FENCED_BELOW ? first : first + inner - lent->len;
+}
+
+static void give_back(struct memory *lent)
+{
+    if (lent->pages != NULL)
+        munmap(lent->pages, lent->pages_len);
+    else
+        free(lent->all);
+}
+
+/* No two neighbours have the same byte, so that a shifted copy shows too. */
+static uint8_t pattern(size_t place)
+{
+    return (uint8_t)(0x5B + 37 * place);
+}
+
+static struct memory lend(size_t len)
+{
+    size_t guard = placing == GUARDED ? GUARD : 0;
+    struct memory lent = { NULL, guard + offset, len, guard, NULL, 0 };
+    size_t all = lent.before + len + lent.after;
+
+    lent.all = placing == FENCED_ABOVE || placing == FENCED_BELOW ? fenced(&lent) : memory_or_stop(all);
+    for (size_t i = 0; i < all; i++)
+        lent.all[i] = pattern(i);
+    return lent;
+}
+
+static uint8_t *start(const struct memory *lent)
+{
+    return lent->all + lent->before;
+}
+
+static uint8_t *copy_of(const struct memory *lent)
+{
+    uint8_t *copy = memory_or_stop(lent->len);
+
+    memcpy(copy, start(lent), lent->len);
+    return copy;
+}
+
+static bool guards_kept(const struct memory *lent)
+{
+    bool kept = true;
+
+    for (size_t i = 0; i < lent->before + lent->len + lent->after; i++)
+        if (i < lent->before || i >= lent->before + lent->len)
+            kept = kept && lent->all[i] == pattern(i);
+    return kept;
+}
+
+/* ---- Calls, each with all that must hold after it ------------------------------------------------------------ */
+
+static struct memory station; /* the one that the calls below are made on */
+
+static size_t part_size(void)
+{
+    return llinkhiro_size() / AXES;
+}
+
+static uint8_t *part(uint32_t axis)
+{
+    return start(&station) + (axis - 1) * part_size();
+}
+
+/* The station is as before, but for the owner's part; owner 0 is nobody. */
+static void check_station(const char *name, const uint8_t *before, uint32_t owner)
+{
+    size_t from = owner == 0 ? station.len : (owner - 1) * part_size();
+    size_t to = owner == 0 ? station.len : from + part_size();
+
+    check_bytes(name, owner == 0 ? "station unchanged" : "parts below unchanged", start(&station), before, from);
+    if (owner != 0)
+        check_bytes(name, "parts above unchanged", start(&station) + to, before + to, station.len - to);
+    check(name, "guards of the station", guards_kept(&station));
+}
+
+static void fresh(const char *name, uint8_t number)
+{
+    uint8_t *before = copy_of(&station);
+
+    check_number(name, "number", llinkhiro_fresh(start(&station), station.len), number);
+    if (number != 0)
+        check_bytes(name, "station unchanged", start(&station), before, station.len);
+    check(name, "guards of the station", guards_kept(&station));
+    free(before);
+}
+
+struct turn { /* a control cycle and its answer */
+    uint32_t axis, flags;
+    uint16_t stw1;
+    int16_t nsoll, nist;
+    uint16_t fault;
+    uint8_t number, state;
+    uint16_t status;
+    int32_t rpm;
+};
+
+static void cycle(const char *name, struct turn t)
+{
+    uint8_t *before = copy_of(&station);
+    struct llinkhiro_cycled got =
+        llinkhiro_cycle(start(&station), station.len, t.axis, t.flags, t.stw1, t.nsoll, t.nist, t.fault);
+
+    check_number(name, "number", got.number, t.number);
+    check_number(name, "state", got.state, t.state);
+    check_number(name, "status", got.status, t.status);
+    check_number(name, "rpm", got.rpm, t.rpm);
+    check_station(name, before, t.number == 0 ? t.axis : 0);
+    free(before);
+}
+
+struct sending { /* a frame and its answer */
+    uint32_t farm;
+    struct bytes frame;
+    size_t more; /* zeros after the frame's bytes */
+    size_t reply_len;
+    uint8_t number;
+    uint16_t stored;
+    struct bytes reply;
+};
+
+static void send(const char *name, struct sending s)
+{
+    struct memory frame = lend(s.frame.len + s.more), reply = lend(s.reply_len);
+
+    memset(start(&frame), 0, frame.len);
+    memcpy(start(&frame), s.frame.at, s.frame.len);
+    uint8_t *frame_before = copy_of(&frame), *reply_before = copy_of(&reply), *before = copy_of(&station);
+    struct llinkhiro_framed got = llinkhiro_frame(start(&station), station.len, s.farm, start(&frame), frame.len,
+                                                  start(&reply), reply.len);
+    size_t replied = s.reply.len;
+
+    check_number(name, "number", got.number, s.number);
+    check_number(name, "reply length", got.length, (int64_t)replied);
+    check_number(name, "elements stored", got.stored, s.stored);
+    check_bytes(name, "reply", start(&reply), s.reply.at, replied);
+    check_bytes(name, "past the reply", start(&reply) + replied, reply_before + replied, reply.len - replied);
+    check(name, "guards of the reply", guards_kept(&reply));
+    check_bytes(name, "frame unchanged", start(&frame), frame_before, frame.len);
+    check(name, "guards of the frame", guards_kept(&frame));
+    check_station(name, before, s.number == 0 ? s.farm : 0);
+    give_back(&frame);
+    give_back(&reply);
+    free(frame_before);
+    free(reply_before);
+    free(before);
+}
+
+/* The common case: a reply memory of exactly 244 bytes. */
+static void frame(const char *name, uint32_t farm, const char *bytes, uint8_t number, uint16_t stored,
+                  const char *reply)
+{
+    send(name, (struct sending){ farm, hex(bytes), 0, REPLY, number, stored, hex(reply) });
+}
+
+/* Another station memory in place of the present one: a fresh station's bytes, cut or followed by the pattern. */
+static void station_of(size_t len)
+{
+    struct memory whole = lend(llinkhiro_size()), next = lend(len);
+
+    check_number("station lent", "number", llinkhiro_fresh(start(&whole), whole.len), 0);
+    check("station lent", "guards of the station", guards_kept(&whole));
+    memcpy(start(&next), start(&whole), len < whole.len ? len : whole.len);
+    give_back(&whole);
+    give_back(&station);
+    station = next;
+}
+
+static void fresh_station(void)
+{
+    station_of(llinkhiro_size());
+}
+
+/* ---- Frames used in many places ------------------------------------------------------------------------------ */
+
+/* Farm 1 writes marks 1000 and 3001; the second is over its limit of 3000. */
+static const char write_marks[] = "5F 00 2F 10  07 02 01 01  10 02 75 31 00 00  42 02 03 E8 0B B9";
+enum { MARKS_STORED = 1 };
+static const char marks_response[] = "5E 00 2F 08  07 82 01 01  44 01 00 02";
+/* Farm 1 reads PNU 930, which is 1. Eight bytes wait afterwards. */
+static const char read_930[] = "5F 00 2F 0A  07 01 01 01  10 01 03 A2 00 00";
+static const char response_930[] = "5E 00 2F 08  07 01 01 01  42 01 00 01";
+/* Farm 1 reads all four marks. */
+static const char read_marks[] = "5F 00 2F 0A  08 01 01 01  10 04 75 31 00 00";
+static const char fetch[] = "5E 00 2F F0";
+
+/* ---- Groups of checks ---------------------------------------------------------------------------------------- */
+
+/* The structs as a host's compiler lays them out are those that the library answers in. */
+static void layout(void)
+{
+    check_number("cycled", "size", sizeof(struct llinkhiro_cycled), 8);
+    check_number("cycled", "status", offsetof(struct llinkhiro_cycled, status), 4);
+    check_number("cycled", "state", offsetof(struct llinkhiro_cycled, state), 6);
+    check_number("cycled", "number", offsetof(struct llinkhiro_cycled, number), 7);
+    check_number("framed", "size", sizeof(struct llinkhiro_framed), 6);
+    check_number("framed", "stored", offsetof(struct llinkhiro_framed, stored), 2);
+    check_number("framed", "number", offsetof(struct llinkhiro_framed, number), 4);
+}
+
+static void fresh_refused(size_t len)
+{
+    station_of(len);
+    fresh(named("fresh on %zu bytes", len), 2);
+}
+
+/* Number 2 of the fresh call, and what a fresh call leaves, whatever stood there before. */
+static void sizes(void)
+{
+    size_t size = llinkhiro_size();
+
+    check("size", "not 0", size != 0);
+    check_number("size", "in 16 equal parts", (int64_t)(size % AXES), 0);
+    fresh_refused(0);
+    fresh_refused(1);
+    fresh_refused(part_size());
+    fresh_refused(size - part_size());
+    fresh_refused(size - 1);
+    fresh_refused(size + 1);
+    fresh_refused(size + part_size());
+    fresh_refused(2 * size);
+    fresh_refused(size + 256);
+    fresh_refused(size + 65536);
+    check_number("size", "the same again", (int64_t)llinkhiro_size(), (int64_t)size);
+
+    fresh_station();
+    uint8_t *first = copy_of(&station);
+    memset(start(&station), 0xFF, size);
+    fresh("fresh over FF", 0);
+    check_bytes("fresh over FF", "a fresh station", start(&station), first, size);
+    memset(start(&station), 0, size);
+    fresh("fresh over 00", 0);
+    check_bytes("fresh over 00", "a fresh station", start(&station), first, size);
+    frame("used", 1, write_marks, 0, MARKS_STORED, "5F 00 2F 10");
+    fresh("fresh over a used station", 0);
+    check_bytes("fresh over a used station", "a fresh station", start(&station), first, size);
+    free(first);
+}
+
+/* 01's listing: four cycles, two frames, the denied frame. */
+static void worked(void)
+{
+    fresh_station();
+    cycle("worked cycle 1", (struct turn){ .axis = 1, .stw1 = 0x047E, .state = 2, .status = 0x0331 });
+    cycle("worked cycle 2", (struct turn){ .axis = 1, .stw1 = 0x047F, .state = 3, .status = 0x0333 });
+    cycle("worked cycle 3", (struct turn){ .axis = 1, .stw1 = 0x047F, .nsoll = 0x2000,
+                                           .state = 4, .status = 0x0237, .rpm = 750 });
+    cycle("worked cycle 4", (struct turn){ .axis = 1, .stw1 = 0x047D, .state = 1, .status = 0x0360 });
+    frame("worked write", 1, write_marks, 0, MARKS_STORED, "5F 00 2F 10");
+    frame("worked fetch", 1, fetch, 0, 0, marks_response);
+    frame("worked denial", 2, write_marks, 11, 0, "DF 80 B6 00");
+}
+
+/* The marks as they are then kept. Mark 3000 is stored, 3001 is not. */
+static void marks(void)
+{
+    worked();
+    frame("marks read", 1, read_marks, 0, 0, "5F 00 2F 0A");
+    frame("marks fetched", 1, fetch, 0, 0, "5E 00 2F 0E  08 01 01 01  42 04 03 E8 00 00 00 00 00 00");
+    frame("mark 3000", 1, "5F 00 2F 0E  09 02 01 01  10 01 75 31 00 03  42 01 0B B8", 0, 1, "5F 00 2F 0E");
+    frame("mark 3000 fetched", 1, fetch, 0, 0, "5E 00 2F 04  09 02 01 01");
+    frame("mark 3001", 1, "5F 00 2F 0E  0A 02 01 01  10 01 75 31 00 03  42 01 0B B9", 0, 0, "5F 00 2F 0E");
+    frame("mark 3001 fetched", 1, fetch, 0, 0, "5E 00 2F 08  0A 82 01 01  44 01 00 02");
+    frame("marks read again", 1, read_marks, 0, 0, "5F 00 2F 0A");
+    frame("marks fetched again", 1, fetch, 0, 0, "5E 00 2F 0E  08 01 01 01  42 04 03 E8 00 00 00 00 0B B8");
+    frame("farm 2 reads its marks", 2, "5F 00 2F 0A  08 01 02 01  10 04 75 31 00 00", 0, 0, "5F 00 2F 0A");
+    frame("farm 2 fetches its marks", 2, fetch, 0, 0, "5E 00 2F 0E  08 01 02 01  42 04 00 00 00 00 00 00 00 00");
+    frame("one mark twice, both stores count", 1,
+          "5F 00 2F 18  0B 02 01 02  10 01 75 31 00 00 10 01 75 31 00 00  42 01 03 E8 06 01 03 E8", 0, 2,
+          "5F 00 2F 18");
+}
+
+/* Number 1. A number of more than 8 or 16 bits does not become a small one. */
+static void farms_and_axes(void)
+{
+    static const uint32_t none[] = { 0, 17, 18, 32, 255, 256, 257, 65536, 65537, 0x01000001, 0x80000001, UINT32_MAX };
+
+    fresh_station();
+    for (size_t i = 0; i < sizeof none / sizeof none[0]; i++) {
+        frame(named("frame of farm %" PRIu32, none[i]), none[i], read_930, 1, 0, "");
+        cycle(named("cycle of axis %" PRIu32, none[i]),
+              (struct turn){ .axis = none[i], .stw1 = 0x047E, .number = 1 });
+    }
+}
+
+/* Every farm reads its own 930 and every axis turns, each in its own part. */
+static void all_sixteen(void)
+{
+    fresh_station();
+    for (uint32_t k = 1; k <= AXES; k++) {
+        struct bytes request = hex(read_930), response = hex(response_930);
+
+        request.at[6] = response.at[6] = (uint8_t)k;
+        send(named("farm %" PRIu32 " reads 930", k),
+             (struct sending){ k, request, 0, REPLY, 0, 0, hex("5F 00 2F 0A") });
+        cycle(named("axis %" PRIu32 " ready", k),
+              (struct turn){ .axis = k, .stw1 = 0x047E, .state = 2, .status = 0x0331 });
+        send(named("farm %" PRIu32 " fetches 930", k), (struct sending){ k, hex(fetch), 0, REPLY, 0, 0, response });
+    }
+}
+
+/* Number 12. Flags of more than 8 bits do not become small ones. Bit 1 is the warning, ZSW1 bit 7. */
+static void flags(void)
+{
+    static const uint16_t status[4] = { 0x0331, 0x0331, 0x03B1, 0x03B1 };
+    static const uint32_t high[] = { 4, 5, 7, 8, 255, 256, 257, 258, 65536, 65537, 0x80000000, UINT32_MAX };
+
+    for (uint32_t f = 0; f < 4; f++) {
+        fresh_station();
+        cycle(named("flags %" PRIu32, f),
+              (struct turn){ .axis = 3, .flags = f, .stw1 = 0x047E, .state = 2, .status = status[f] });
+    }
+    for (size_t i = 0; i < sizeof high / sizeof high[0]; i++)
+        cycle(named("flags %" PRIu32, high[i]),
+              (struct turn){ .axis = 3, .flags = high[i], .stw1 = 0x047F, .number = 12 });
+}
+
+/* Sets of refusal numbers that a call deserves: bit k stands for number k. */
+static bool has(unsigned set, unsigned number)
+{
+    return set >> number & 1;
+}
+
+static uint8_t smallest(unsigned set)
+{
+    uint8_t number = 1;
+
+    while (!has(set, number))
+        number++;
+    return number;
+}
+
+static const char *listed(unsigned set)
+{
+    static char list[40];
+
+    list[0] = '\0';
+    for (unsigned number = 1; number <= 12; number++)
+        if (has(set, number))
+            snprintf(list + strlen(list), sizeof list - strlen(list), " %u", number);
+    return list;
+}
+
+/* The two ways to deserve number 2: a station one byte short, or the caller's part all FF, its marks over the limit. */
+enum spoiling { CUT, OVERWRITTEN };
+
+static const char *spoiled(unsigned set, enum spoiling how)
+{
+    return !has(set, 2) ? "" : how == CUT ? ", station cut short" : ", part overwritten";
+}
+
+static void spoil(enum spoiling how, uint32_t axis)
+{
+    struct memory whole = station;
+
+    if (how == OVERWRITTEN) {
+        memset(part(axis), 0xFF, part_size());
+        return;
+    }
+    station = lend(whole.len - 1);
+    memcpy(start(&station), start(&whole), station.len);
+    give_back(&whole);
+}
+
+static void cycle_deserving(unsigned set, enum spoiling how)
+{
+    fresh_station();
+    if (has(set, 2))
+        spoil(how, 16);
+    cycle(named("cycle that deserves%s%s", listed(set), spoiled(set, how)),
+          (struct turn){ .axis = has(set, 1) ? 17 : 16, .flags = has(set, 12) ? 4 : 3, .stw1 = 0x047E, .nsoll = -1,
+                         .nist = -1, .fault = 1, .number = smallest(set) });
+}
+
+/* A cycle that deserves several of 1, 2 and 12 is answered the smallest. */
+static void cycle_order(void)
+{
+    for (unsigned set = 1 << 1; set < 1 << 13; set++)
+        if ((set & ~(1u << 1 | 1u << 2 | 1u << 12)) == 0) {
+            cycle_deserving(set, CUT);
+            if (has(set, 2))
+                cycle_deserving(set, OVERWRITTEN);
+        }
+}
+
+/* A frame of farm 1 made to deserve each number of the set and no other; set 0 is accepted. */
+static struct bytes frame_deserving(unsigned set, bool write)
+{
+    struct bytes made = hex(write ? read_930 : has(set, 9) ? "5E 00 2F 07" : fetch);
+
+    if (has(set, 4))
+        made.at[0] = 0x5D;
+    if (has(set, 5))
+        made.at[1] = 1;
+    if (has(set, 6))
+        made.at[2] = 46;
+    if (has(set, 7))
+        add(&made, "00"); /* one byte more than the length says */
+    if (has(set, 10))
+        made.at[4] = 0; /* reference 0 */
+    if (has(set, 11))
+        made.at[6] = 2; /* axis 2 */
+    return made;
+}
+
+/* The reply of document 01's table to a refused frame. */
+static struct bytes refusal_reply(uint8_t number, bool write)
+{
+    static const char *const code[12] = { "", "", "", "", "", "B2", "B0", "B1", "B5", "B7", "B8", "B6" };
+    struct bytes reply = { 0, { 0 } };
+
+    if (number >= 5) {
+        add(&reply, write ? "DF 80" : "DE 80");
+        add(&reply, code[number]);
+        add(&reply, "00");
+    }
+    return reply;
+}
+
+static void frame_spoiled(unsigned set, bool write, enum spoiling how)
+{
+    fresh_station();
+    if (write == has(set, 8)) /* a response waits */
+        frame("response left waiting", 1, read_930, 0, 0, "5F 00 2F 0A");
+    if (has(set, 2))
+        spoil(how, 1);
+    send(named("%s that deserves%s%s", write ? "write" : "read", listed(set), spoiled(set, how)),
+         (struct sending){ has(set, 1) ? 17 : 1, frame_deserving(set, write), 0, has(set, 3) ? REPLY - 1 : REPLY,
+                           smallest(set), 0, refusal_reply(smallest(set), write) });
+}
+
+static void frame_answered_smallest(unsigned set, bool write)
+{
+    frame_spoiled(set, write, CUT);
+    if (has(set, 2))
+        frame_spoiled(set, write, OVERWRITTEN);
+}
+
+/* A frame that deserves several numbers is answered the smallest, for every set of numbers that can meet: only a read
+ * can deserve 9, and not beside 8; only a write can deserve 10 and 11. */
+static void frame_order(void)
+{
+    for (unsigned set = 1 << 1; set < 1 << 12; set += 1 << 1) {
+        if (!has(set, 9))
+            frame_answered_smallest(set, true);
+        if (!has(set, 10) && !has(set, 11) && !(has(set, 8) && has(set, 9)))
+            frame_answered_smallest(set, false);
+    }
+}
+
+/* Numbers 4 to 8 by the frame's first four bytes and its length, on an idle axis. */
+static void frame_headers(void)
+{
+    fresh_station();
+    frame("4: no byte", 1, "", 4, 0, "");
+    frame("4: one byte", 1, "5F", 4, 0, "");
+    frame("4: three bytes of a write", 1, "5F 00 2F", 4, 0, "");
+    frame("4: three bytes of a read", 1, "5E 00 2F", 4, 0, "");
+    frame("4: three bytes, slot 1", 1, "5E 01 2F", 4, 0, "");
+    frame("4: function 5D", 1, "5D 00 2F F0", 4, 0, "");
+    frame("4: function 60", 1, "60 00 2F F0", 4, 0, "");
+    frame("4: function DE", 1, "DE 00 2F F0", 4, 0, "");
+    frame("4: function DF", 1, "DF 00 2F 0A  07 01 01 01  10 01 03 A2 00 00", 4, 0, "");
+    frame("4: function 00", 1, "00 00 2F F0", 4, 0, "");
+    frame("5: write to slot 1", 1, "5F 01 2F 0A  07 01 01 01  10 01 03 A2 00 00", 5, 0, "DF 80 B2 00");
+    frame("5: read of slot 255", 1, "5E FF 2F F0", 5, 0, "DE 80 B2 00");
+    frame("6: write to index 46", 1, "5F 00 2E 0A  07 01 01 01  10 01 03 A2 00 00", 6, 0, "DF 80 B0 00");
+    frame("6: read of index 48", 1, "5E 00 30 F0", 6, 0, "DE 80 B0 00");
+    frame("6: read of index 0", 1, "5E 00 00 F0", 6, 0, "DE 80 B0 00");
+    frame("7: write with a byte more", 1, "5F 00 2F 0A  07 01 01 01  10 01 03 A2 00 00 00", 7, 0, "DF 80 B1 00");
+    frame("7: write with a byte less", 1, "5F 00 2F 0A  07 01 01 01  10 01 03 A2 00", 7, 0, "DF 80 B1 00");
+    frame("7: write with nothing after 0A", 1, "5F 00 2F 0A", 7, 0, "DF 80 B1 00");
+    frame("7: write with a byte after 00", 1, "5F 00 2F 00 07", 7, 0, "DF 80 B1 00");
+    frame("7: read with a byte after it", 1, "5E 00 2F F0 00", 7, 0, "DE 80 B1 00");
+    frame("7: read with the one byte it wants", 1, "5E 00 2F 01 00", 7, 0, "DE 80 B1 00");
+    frame("7: read wants 241", 1, "5E 00 2F F1", 7, 0, "DE 80 B1 00");
+    frame("7: read wants 255", 1, "5E 00 2F FF", 7, 0, "DE 80 B1 00");
+    frame("8: read with none waiting", 1, "5E 00 2F F0", 8, 0, "DE 80 B5 00");
+    frame("8: read of 0 bytes with none waiting", 1, "5E 00 2F 00", 8, 0, "DE 80 B5 00");
+}
+
+/* Number 7 for frames too long for a length byte: a length of more than 8 or 16 bits does not become a small one. */
+static void long_frames(void)
+{
+    static const size_t more[] = { 256, 512, 65536, 131072 };
+    struct bytes write_241 = hex("5F 00 2F F1");
+
+    fresh_station();
+    add_times(&write_241, LARGEST_BLOCK + 1, "07");
+    send("7: write of 241 bytes", (struct sending){ 1, write_241, 0, REPLY, 7, 0, hex("DF 80 B1 00") });
+    for (size_t i = 0; i < sizeof more / sizeof more[0]; i++) {
+        send(named("7: write with %zu bytes more", more[i]),
+             (struct sending){ 1, hex(read_930), more[i], REPLY, 7, 0, hex("DF 80 B1 00") });
+        send(named("7: write with %zu bytes after 00", more[i]),
+             (struct sending){ 1, hex("5F 00 2F 00"), more[i], REPLY, 7, 0, hex("DF 80 B1 00") });
+        send(named("7: read with %zu bytes after it", more[i]),
+             (struct sending){ 1, hex(fetch), more[i], REPLY, 7, 0, hex("DE 80 B1 00") });
+    }
+}
+
+/* Numbers 10 and 11: blocks that cannot be read, and readable ones of another axis. */
+static void blocks(void)
+{
+    fresh_station();
+    frame("10: empty block", 1, "5F 00 2F 00", 10, 0, "DF 80 B8 00");
+    frame("10: header alone", 1, "5F 00 2F 04  07 01 01 01", 10, 0, "DF 80 B8 00");
+    frame("10: reference 0", 1, "5F 00 2F 0A  00 01 01 01  10 01 03 A2 00 00", 10, 0, "DF 80 B8 00");
+    frame("10: identifier 00", 1, "5F 00 2F 0A  07 00 01 01  10 01 03 A2 00 00", 10, 0, "DF 80 B8 00");
+    frame("10: identifier 03", 1, "5F 00 2F 0A  07 03 01 01  10 01 03 A2 00 00", 10, 0, "DF 80 B8 00");
+    frame("10: identifier 81", 1, "5F 00 2F 0A  07 81 01 01  10 01 03 A2 00 00", 10, 0, "DF 80 B8 00");
+    frame("10: no parameter", 1, "5F 00 2F 04  07 01 01 00", 10, 0, "DF 80 B8 00");
+    frame("10: 40 parameters", 1, "5F 00 2F 0A  07 01 01 28  10 01 03 A2 00 00", 10, 0, "DF 80 B8 00");
+    frame("10: address cut", 1, "5F 00 2F 09  07 01 01 01  10 01 03 A2 00", 10, 0, "DF 80 B8 00");
+    frame("10: second address missing", 1, "5F 00 2F 0A  07 01 01 02  10 01 03 A2 00 00", 10, 0, "DF 80 B8 00");
+    frame("10: a byte after a request", 1, "5F 00 2F 0B  07 01 01 01  10 01 03 A2 00 00 00", 10, 0, "DF 80 B8 00");
+    frame("10: change without values", 1, "5F 00 2F 0A  07 02 01 01  10 01 75 31 00 00", 10, 0, "DF 80 B8 00");
+    frame("10: format 40", 1, "5F 00 2F 0E  07 02 01 01  10 01 75 31 00 00  40 01 03 E8", 10, 0, "DF 80 B8 00");
+    frame("10: format 08", 1, "5F 00 2F 10  07 02 01 01  10 01 75 31 00 00  08 01 00 00 00 00", 10, 0, "DF 80 B8 00");
+    frame("10: value cut", 1, "5F 00 2F 0D  07 02 01 01  10 01 75 31 00 00  42 01 03", 10, 0, "DF 80 B8 00");
+    frame("10: byte left over", 1, "5F 00 2F 0F  07 02 01 01  10 01 75 31 00 00  42 01 03 E8 00", 10, 0,
+          "DF 80 B8 00");
+    frame("11: axis 2", 1, "5F 00 2F 0A  07 01 02 01  10 01 03 A2 00 00", 11, 0, "DF 80 B6 00");
+    frame("11: axis 0", 1, "5F 00 2F 0A  07 01 00 01  10 01 03 A2 00 00", 11, 0, "DF 80 B6 00");
+    frame("11: axis 17", 1, "5F 00 2F 0A  07 01 11 01  10 01 03 A2 00 00", 11, 0, "DF 80 B6 00");
+    frame("11: axis 255", 1, "5F 00 2F 0A  07 01 FF 01  10 01 03 A2 00 00", 11, 0, "DF 80 B6 00");
+    frame("11: farm 2's own marks from farm 1", 1, "5F 00 2F 0E  07 02 02 01  10 01 75 31 00 00  42 01 03 E8", 11, 0,
+          "DF 80 B6 00");
+    frame("nothing waits after refusals", 1, fetch, 8, 0, "DE 80 B5 00");
+}
+
+static void replied_into(size_t len)
+{
+    fresh_station();
+    send(named("write with %zu bytes for the reply", len),
+         (struct sending){ 1, hex(read_930), 0, len, 0, 0, hex("5F 00 2F 0A") });
+    send(named("denied write with %zu bytes for the reply", len),
+         (struct sending){ 2, hex(read_930), 0, len, 11, 0, hex("DF 80 B6 00") });
+    send(named("fetch with %zu bytes for the reply", len),
+         (struct sending){ 1, hex(fetch), 0, len, 0, 0, hex(response_930) });
+}
+
+/* Number 3, for every frame whatever its reply would be, and reply memories of 244 bytes and more. */
+static void reply_sizes(void)
+{
+    static const size_t small[] = { 0, 1, 4, 12, 128, LARGEST_BLOCK, REPLY - 1 };
+    static const size_t enough[] = { REPLY, REPLY + 1, 255, 256, 257, 300, 65535, 65536, 65537 };
+
+    fresh_station();
+    frame("response left waiting", 1, read_930, 0, 0, "5F 00 2F 0A");
+    for (size_t i = 0; i < sizeof small / sizeof small[0]; i++) {
+        send(named("3: write with %zu bytes for the reply", small[i]),
+             (struct sending){ 2, hex(read_930), 0, small[i], 3, 0, hex("") });
+        send(named("3: fetch with %zu bytes for the reply", small[i]),
+             (struct sending){ 1, hex(fetch), 0, small[i], 3, 0, hex("") });
+        send(named("3: no frame with %zu bytes for the reply", small[i]),
+             (struct sending){ 1, hex(""), 0, small[i], 3, 0, hex("") });
+    }
+    frame("the response outlived number 3", 1, fetch, 0, 0, response_930);
+    for (size_t i = 0; i < sizeof enough / sizeof enough[0]; i++)
+        replied_into(enough[i]);
+}
+
+static void work_refused(size_t len)
+{
+    station_of(len);
+    frame(named("2: write on %zu bytes of station", len), 1, read_930, 2, 0, "");
+    frame(named("2: read on %zu bytes of station", len), 16, fetch, 2, 0, "");
+    frame(named("2: no frame on %zu bytes of station", len), 1, "", 2, 0, "");
+    cycle(named("2: cycle on %zu bytes of station", len), (struct turn){ .axis = 1, .stw1 = 0x047E, .number = 2 });
+}
+
+/* Number 2 by the station's size. */
+static void station_sizes(void)
+{
+    work_refused(0);
+    work_refused(1);
+    work_refused(part_size());
+    work_refused(llinkhiro_size() - part_size());
+    work_refused(llinkhiro_size() - 1);
+    work_refused(llinkhiro_size() + 1);
+    work_refused(llinkhiro_size() + part_size());
+    work_refused(llinkhiro_size() + 65536);
+}
+
+/* A response waits until it is fetched: it outlives 8, 9 and all other refusals, and cycles; and it is fetched once. */
+static void waiting(void)
+{
+    fresh_station();
+    uint8_t *idle = copy_of(&station);
+    frame("read 930", 1, read_930, 0, 0, "5F 00 2F 0A");
+    frame("8: the same write again", 1, read_930, 8, 0, "DF 80 B5 00");
+    frame("8: a change", 1, write_marks, 8, 0, "DF 80 B5 00");
+    frame("8: before 10", 1, "5F 00 2F 00", 8, 0, "DF 80 B5 00");
+    frame("8: before 11", 1, "5F 00 2F 0A  07 01 02 01  10 01 03 A2 00 00", 8, 0, "DF 80 B5 00");
+    frame("9: wants 0", 1, "5E 00 2F 00", 9, 0, "DE 80 B7 00");
+    frame("9: wants 1", 1, "5E 00 2F 01", 9, 0, "DE 80 B7 00");
+    frame("9: wants one too few", 1, "5E 00 2F 07", 9, 0, "DE 80 B7 00");
+    frame("7: wants 241", 1, "5E 00 2F F1", 7, 0, "DE 80 B1 00");
+    frame("6: index 48", 1, "5E 00 30 F0", 6, 0, "DE 80 B0 00");
+    frame("wants just what waits", 1, "5E 00 2F 08", 0, 0, response_930);
+    check_bytes("fetched", "the station as it was idle", start(&station), idle, station.len);
+    frame("8: nothing waits", 1, "5E 00 2F 08", 8, 0, "DE 80 B5 00");
+    frame("written anew", 1, read_930, 0, 0, "5F 00 2F 0A");
+    cycle("12 with a response waiting", (struct turn){ .axis = 1, .flags = 4, .number = 12 });
+    cycle("a cycle with a response waiting",
+          (struct turn){ .axis = 1, .stw1 = 0x047E, .state = 2, .status = 0x0331 });
+    frame("fetched after a cycle", 1, fetch, 0, 0, response_930);
+    free(idle);
+}
+
+static const char mark_of_farm_2[] = "5F 00 2F 0E  07 02 02 01  10 01 75 31 00 00  42 01 07 D0";
+
+static void farm_1_begins(void)
+{
+    cycle("farm 1 begins", (struct turn){ .axis = 1, .stw1 = 0x047E, .state = 2, .status = 0x0331 });
+    frame("farm 1 begins", 1, write_marks, 0, MARKS_STORED, "5F 00 2F 10");
+}
+
+static void farm_1_ends(void)
+{
+    cycle("farm 1 ends", (struct turn){ .axis = 1, .stw1 = 0x047F, .state = 3, .status = 0x0333 });
+    frame("farm 1 ends", 1, fetch, 0, 0, marks_response);
+}
+
+static void farm_2_begins(void)
+{
+    cycle("farm 2 begins", (struct turn){ .axis = 2, .stw1 = 0x047E, .fault = 0x1234, .state = 1, .status = 0x0378 });
+    frame("farm 2 begins", 2, mark_of_farm_2, 0, 1, "5F 00 2F 0E");
+}
+
+static void farm_2_ends(void)
+{
+    cycle("farm 2 ends", (struct turn){ .axis = 2, .stw1 = 0x047E, .fault = 0x5678, .state = 1, .status = 0x0378 });
+    frame("farm 2 ends", 2, mark_of_farm_2, 8, 0, "DF 80 B5 00");
+}
+
+/* Farms 1 and 2 in turn: the same answers and the same parts as each alone. */
+static void neighbours(void)
+{
+    fresh_station();
+    farm_1_begins();
+    farm_1_ends();
+    uint8_t *alone_1 = copy_of(&station);
+    fresh_station();
+    farm_2_begins();
+    farm_2_ends();
+    uint8_t *alone_2 = copy_of(&station);
+    fresh_station();
+    uint8_t *untouched = copy_of(&station);
+    farm_2_begins();
+    farm_1_begins();
+    farm_1_ends();
+    farm_2_ends();
+    size_t size = part_size();
+    check_bytes("farms in turn", "farm 1's part as alone", part(1), alone_1, size);
+    check_bytes("farms in turn", "farm 2's part as alone", part(2), alone_2 + size, size);
+    check_bytes("farms in turn", "all other parts fresh", part(3), untouched + 2 * size, (AXES - 2) * size);
+    frame("farm 2 fetches its own", 2, fetch, 0, 0, "5E 00 2F 04  07 02 02 01");
+    free(alone_1);
+    free(alone_2);
+    free(untouched);
+}
+
+static void overwritten(uint32_t axis, uint8_t with)
+{
+    uint32_t neighbour = axis % AXES + 1;
+    struct bytes request = hex(read_930), theirs = request;
+
+    request.at[6] = (uint8_t)axis;
+    theirs.at[6] = (uint8_t)neighbour;
+    fresh_station();
+    memset(part(axis), with, part_size());
+    send(named("2: farm %" PRIu32 " with its part all %02X", axis, (unsigned)with),
+         (struct sending){ axis, request, 0, REPLY, 2, 0, hex("") });
+    send(named("2: read of farm %" PRIu32 " with its part all %02X", axis, (unsigned)with),
+         (struct sending){ axis, hex(fetch), 0, REPLY, 2, 0, hex("") });
+    cycle(named("2: axis %" PRIu32 " with its part all %02X", axis, (unsigned)with),
+          (struct turn){ .axis = axis, .stw1 = 0x047E, .number = 2 });
+    send(named("farm %" PRIu32 " beside a part all %02X", neighbour, (unsigned)with),
+         (struct sending){ neighbour, theirs, 0, REPLY, 0, 0, hex("5F 00 2F 0A") });
+    cycle(named("axis %" PRIu32 " beside a part all %02X", neighbour, (unsigned)with),
+          (struct turn){ .axis = neighbour, .stw1 = 0x047E, .state = 2, .status = 0x0331 });
+}
+
+/* Number 2 by the caller's own part. All FF has marks over their limit, all 00 has 10111 under its own. */
+static void overwritten_parts(void)
+{
+    for (uint32_t axis = 1; axis <= AXES; axis++) {
+        overwritten(axis, 0xFF);
+        overwritten(axis, 0x00);
+    }
+    fresh("a fresh station mends the parts", 0);
+    frame("after mending", 1, read_930, 0, 0, "5F 00 2F 0A");
+}
+
+/* Farm 1's part in farm 2's place: well-formed there while idle, but not with a waiting response of axis 1. */
+static void moved_parts(void)
+{
+    worked();
+    memcpy(part(2), part(1), part_size());
+    frame("farm 2 reads the marks moved to it", 2, "5F 00 2F 0A  08 01 02 01  10 04 75 31 00 00", 0, 0,
+          "5F 00 2F 0A");
+    frame("farm 2 fetches the marks moved to it", 2, fetch, 0, 0,
+          "5E 00 2F 0E  08 01 02 01  42 04 03 E8 00 00 00 00 00 00");
+    frame("a response of axis 1", 1, read_930, 0, 0, "5F 00 2F 0A");
+    memcpy(part(2), part(1), part_size());
+    frame("2: fetch of a response of axis 1", 2, fetch, 2, 0, "");
+    cycle("2: cycle beside a response of axis 1", (struct turn){ .axis = 2, .stw1 = 0x047E, .number = 2 });
+    frame("farm 1 fetches it", 1, fetch, 0, 0, response_930);
+}
+
+/* All is in the lent memory: a station goes on at another address, and two stations know nothing of each other. */
+static void moved_station(void)
+{
+    fresh_station();
+    frame("before the move", 1, write_marks, 0, MARKS_STORED, "5F 00 2F 10");
+    struct memory other = lend(station.len), first = station;
+    memcpy(start(&other), start(&station), station.len);
+    station = other;
+    frame("moved station: fetch", 1, fetch, 0, 0, marks_response);
+    frame("moved station: read", 1, read_930, 0, 0, "5F 00 2F 0A");
+    station = first;
+    frame("first station: fetch", 1, fetch, 0, 0, marks_response);
+    station = other;
+    frame("moved station: fetch again", 1, fetch, 0, 0, response_930);
+    give_back(&first);
+}
+
+/* Four reads of all 947: the fourth would pass 240 bytes and gets 0x15; the block is 206 bytes. */
+static void four_947(void)
+{
+    struct bytes request = hex("5F 00 2F 1C  07 01 01 04"), response = hex("5E 00 2F CE  07 81 01 04");
+
+    add_times(&request, 4, "10 20 03 B3 00 00");
+    for (unsigned i = 0; i < 3; i++) {
+        add(&response, "42 20");
+        add_times(&response, 32, "00 00");
+    }
+    add(&response, "44 01 00 15");
+    fresh_station();
+    send("four reads of 947", (struct sending){ 1, request, 0, REPLY, 0, 0, hex("5F 00 2F 1C") });
+    frame("9: four 947, wants 205", 1, "5E 00 2F CD", 9, 0, "DE 80 B7 00");
+    send("four 947 fetched", (struct sending){ 1, hex("5E 00 2F CE"), 0, REPLY, 0, 0, response });
+}
+
+/* A response of just 240 bytes fills the reply memory: three whole 947 and 18 elements of a fourth. */
+static void full_reply(void)
+{
+    struct bytes request = hex("5F 00 2F 1C  07 01 01 04"), response = hex("5E 00 2F F0  07 01 01 04");
+
+    add_times(&request, 3, "10 20 03 B3 00 00");
+    add(&request, "10 12 03 B3 00 00");
+    for (unsigned i = 0; i < 3; i++) {
+        add(&response, "42 20");
+        add_times(&response, 32, "00 00");
+    }
+    add(&response, "42 12");
+    add_times(&response, 18, "00 00");
+    fresh_station();
+    send("a response of 240 bytes", (struct sending){ 1, request, 0, REPLY, 0, 0, hex("5F 00 2F 1C") });
+    frame("9: wants 239 of 240", 1, "5E 00 2F EF", 9, 0, "DE 80 B7 00");
+    send("240 bytes fetched", (struct sending){ 1, hex(fetch), 0, REPLY, 0, 0, response });
+}
+
+/* 39 parameters in 238 bytes, each I32 so that the response has 238 bytes too; 40 do not fit a length of 240. */
+static void thirty_nine(void)
+{
+    struct bytes request = hex("5F 00 2F EE  07 01 01 27"), response = hex("5E 00 2F EE  07 01 01 27");
+    struct bytes forty = hex("5F 00 2F F4  07 01 01 28");
+
+    add_times(&request, 39, "10 01 75 34 00 00");
+    add_times(&response, 39, "43 01 00 00 00 00");
+    add_times(&forty, 40, "10 01 75 34 00 00");
+    fresh_station();
+    send("39 parameters", (struct sending){ 1, request, 0, REPLY, 0, 0, hex("5F 00 2F EE") });
+    send("39 parameters fetched", (struct sending){ 1, hex(fetch), 0, REPLY, 0, 0, response });
+    send("7: 40 parameters in 244 bytes", (struct sending){ 1, forty, 0, REPLY, 7, 0, hex("DF 80 B1 00") });
+    request.at[7] = 0x28;
+    send("10: 40 parameters in 238 bytes", (struct sending){ 1, request, 0, REPLY, 10, 0, hex("DF 80 B8 00") });
+    request.at[3] = 0xF0;
+    add(&request, "10 01");
+    send("10: 40 parameters in 240 bytes", (struct sending){ 1, request, 0, REPLY, 10, 0, hex("DF 80 B8 00") });
+}
+
+/* The largest readable write: 228 byte values for 9901, which wants words. */
+static void full_write(void)
+{
+    struct bytes request = hex("5F 00 2F F0  0C 02 01 01  10 08 26 AD 00 00  41 E4");
+
+    add_times(&request, 228, "AA");
+    fresh_station();
+    send("a block of 240 bytes", (struct sending){ 1, request, 0, REPLY, 0, 0, hex("5F 00 2F F0") });
+    frame("a block of 240 bytes fetched", 1, fetch, 0, 0, "5E 00 2F 08  0C 82 01 01  44 01 00 05");
+}
+
+/* Every error word of the address rules, beside addresses that work. */
+static void addresses(void)
+{
+    fresh_station();
+    frame("read errors", 1,
+          "5F 00 2F 34  0A 01 01 08  10 01 00 01 00 00  20 01 03 A2 00 00  30 01 03 A2 00 00  11 01 03 A2 00 00 "
+          "10 01 03 A2 00 01  10 00 75 31 00 00  10 02 75 31 00 03  10 00 03 A2 00 00", 0, 0, "5F 00 2F 34");
+    frame("read errors fetched", 1, fetch, 0, 0,
+          "5E 00 2F 24  0A 81 01 08  44 01 00 00  44 01 00 09  44 01 00 0F  44 01 00 16 "
+          "44 01 00 04  44 01 00 16  44 01 00 03  42 01 00 01");
+    frame("change errors", 1,
+          "5F 00 2F 4D  0B 02 01 07  10 01 03 A2 00 00  10 01 26 AC 00 00  10 02 26 AD 00 00  10 01 75 32 00 00 "
+          "10 00 75 33 00 00  10 01 75 34 00 01  10 01 75 34 00 00  42 01 00 01  41 01 05  42 01 00 07  42 01 40 01 "
+          "06 01 7F FF  04 01 FF FE 79 60  43 01 FF FE 79 5F", 0, 2, "5F 00 2F 4D");
+    frame("change errors fetched", 1, fetch, 0, 0,
+          "5E 00 2F 1C  0B 82 01 07  44 01 00 01  44 01 00 05  44 01 00 18  44 01 00 02  40 00  40 00  44 01 00 02");
+    frame("read what was stored", 1,
+          "5F 00 2F 22  0C 01 01 05  10 01 75 32 00 00  10 01 75 33 00 00  10 02 75 34 00 00  10 02 03 C5 00 00 "
+          "10 01 27 7F 00 00", 0, 0, "5F 00 2F 22");
+    frame("what was stored", 1, fetch, 0, 0,
+          "5E 00 2F 1E  0C 01 01 05  42 01 00 A4  42 01 7F FF  43 02 00 00 00 00 FF FE 79 60  41 02 03 29 "
+          "42 01 05 DC");
+}
+
+/* All six states, the sides of bit 8, bit 10, and signed numbers both ways. 047F leads on, 047E ramps down, 047B stops
+ * quickly, 045F holds the setpoint, 043F takes it away, and a word of 0 is not taken. */
+static const struct turn turns[] = {
+    { .stw1 = 0x047F, .state = 1, .status = 0x0370 },
+    { .stw1 = 0x047E, .state = 2, .status = 0x0331 },
+    { .stw1 = 0x047F, .nsoll = 8192, .state = 3, .status = 0x0333 },
+    { .stw1 = 0x047F, .nsoll = 8192, .nist = 8028, .state = 4, .status = 0x0337, .rpm = 750 },
+    { .stw1 = 0x047F, .nsoll = 8192, .nist = 8027, .state = 4, .status = 0x0237, .rpm = 750 },
+    { .stw1 = 0x047F, .nsoll = 8192, .nist = 8356, .state = 4, .status = 0x0337, .rpm = 750 },
+    { .stw1 = 0x047F, .nsoll = 8192, .nist = 8357, .state = 4, .status = 0x0237, .rpm = 750 },
+    { .stw1 = 0x047F, .nsoll = 16384, .nist = 16384, .state = 4, .status = 0x0737, .rpm = 1500 },
+    { .stw1 = 0x047F, .nsoll = -16384, .nist = -16384, .state = 4, .status = 0x0737, .rpm = -1500 },
+    { .stw1 = 0x047F, .nsoll = -16383, .nist = -16383, .state = 4, .status = 0x0337, .rpm = -1499 },
+    { .stw1 = 0x047F, .nsoll = -1, .state = 4, .status = 0x0337, .rpm = 0 },
+    { .stw1 = 0x047F, .nsoll = 32767, .nist = 32767, .state = 4, .status = 0x0737, .rpm = 2999 },
+    { .stw1 = 0x047F, .nsoll = -32768, .nist = -32768, .state = 4, .status = 0x0737, .rpm = -3000 },
+    { .stw1 = 0x047F, .nsoll = 32767, .nist = -32768, .state = 4, .status = 0x0637, .rpm = 2999 },
+    { .stw1 = 0x0000, .nsoll = 5, .state = 4, .status = 0x0237, .rpm = 2999 },
+    { .stw1 = 0x045F, .nsoll = 5, .nist = 32767, .state = 4, .status = 0x0737, .rpm = 2999 },
+    { .stw1 = 0x043F, .nsoll = 5, .state = 4, .status = 0x0337 },
+    { .stw1 = 0x047E, .state = 51, .status = 0x0333 },
+    { .stw1 = 0x047E, .flags = 2, .state = 51, .status = 0x03B3 },
+    { .stw1 = 0x047F, .state = 4, .status = 0x0337 },
+    { .stw1 = 0x047B, .state = 52, .status = 0x0313 },
+    { .stw1 = 0x047B, .flags = 2, .state = 52, .status = 0x0393 },
+    { .stw1 = 0x047B, .flags = 1, .state = 1, .status = 0x0350 },
+    { .stw1 = 0x047E, .state = 2, .status = 0x0331 },
+    { .stw1 = 0x047F, .state = 3, .status = 0x0333 },
+    { .stw1 = 0x047F, .state = 4, .status = 0x0337 },
+    { .stw1 = 0x047E, .state = 51, .status = 0x0333 },
+    { .stw1 = 0x047E, .flags = 3, .state = 2, .status = 0x03B1 },
+};
+
+static void cycles(void)
+{
+    fresh_station();
+    for (size_t i = 0; i < sizeof turns / sizeof turns[0]; i++) {
+        struct turn t = turns[i];
+
+        t.axis = 16;
+        cycle(named("cycle %zu", i + 1), t);
+    }
+}
+
+/* A fault and its acknowledgement, as the cycle answers and as a farm reads them (944, 947, 10100 to 10103). */
+static void faults(void)
+{
+    fresh_station();
+    cycle("fault", (struct turn){ .axis = 1, .stw1 = 0x047E, .fault = 0xFEDC, .state = 1, .status = 0x0378 });
+    frame("fault read", 1, "5F 00 2F 10  0D 01 01 02  10 01 03 B0 00 00  10 02 03 B3 00 00", 0, 0, "5F 00 2F 10");
+    frame("fault fetched", 1, fetch, 0, 0, "5E 00 2F 0E  0D 01 01 02  42 01 00 01  42 02 FE DC 00 00");
+    cycle("acknowledged", (struct turn){ .axis = 1, .stw1 = 0x04FE, .nsoll = -2, .nist = -3, .state = 2,
+                                         .status = 0x0331 });
+    frame("acknowledged read", 1, "5F 00 2F 10  0D 01 01 02  10 01 03 B0 00 00  10 09 03 B3 00 00", 0, 0,
+          "5F 00 2F 10");
+    frame("acknowledged fetched", 1, fetch, 0, 0,
+          "5E 00 2F 1C  0D 01 01 02  42 01 00 02  42 09 00 00 00 00 00 00 00 00 00 00 00 00 00 00 00 00 FE DC");
+    frame("words read", 1,
+          "5F 00 2F 1C  0E 01 01 04  10 01 27 74 00 00  10 01 27 75 00 00  10 01 27 76 00 00  10 01 27 77 00 00", 0, 0,
+          "5F 00 2F 1C");
+    frame("words fetched", 1, fetch, 0, 0,
+          "5E 00 2F 14  0E 01 01 04  42 01 04 FE  42 01 FF FE  42 01 03 31  42 01 FF FD");
+}
+
+/* Memory that starts at any address: all three at each offset from an aligned one. */
+static void offsets(void)
+{
+    for (offset = 1; offset < 8; offset++) {
+        fresh_station();
+        check_number(named("offset %zu", offset), "of the station", (int64_t)((uintptr_t)start(&station) % 8),
+                     (int64_t)offset);
+        marks();
+        waiting();
+        faults();
+        full_reply();
+    }
+    offset = 0;
+}
+
+/* Calls of every kind and number, on memory placed so that reads outside show too. */
+static void placed(enum placing here)
+{
+    placing = here;
+    sizes();
+    marks();
+    farms_and_axes();
+    station_sizes();
+    frame_headers();
+    blocks();
+    reply_sizes();
+    waiting();
+    overwritten_parts();
+    four_947();
+    full_reply();
+    thirty_nine();
+    full_write();
+    addresses();
+    cycles();
+    faults();
+    placing = GUARDED;
+}
+
+static void bare(void)
+{
+    placed(BARE);
+}
+
+static void fenced_above(void)
+{
+    placed(FENCED_ABOVE);
+}
+
+static void fenced_below(void)
+{
+    placed(FENCED_BELOW);
+}
+
+/* Memory that nobody wrote to: fresh reads none of the station's, a frame none of the reply's. */
+static void unwritten(void)
+{
+    size_t size = llinkhiro_size();
+    uint8_t *lent = memory_or_stop(size), *reply = memory_or_stop(REPLY);
+    struct bytes request = hex(read_930), read = hex(fetch), response = hex(response_930);
+
+    fresh_station();
+    check_number("unwritten", "fresh", llinkhiro_fresh(lent, size), 0);
+    check_bytes("unwritten", "a fresh station", lent, start(&station), size);
+    struct llinkhiro_framed denied = llinkhiro_frame(lent, size, 2, request.at, request.len, reply, REPLY);
+    struct llinkhiro_framed written = llinkhiro_frame(lent, size, 1, request.at, request.len, reply, REPLY);
+    struct llinkhiro_framed fetched = llinkhiro_frame(lent, size, 1, read.at, read.len, reply, REPLY);
+    check_number("unwritten", "denied", denied.number, 11);
+    check_number("unwritten", "written", written.number, 0);
+    check_number("unwritten", "fetched", fetched.number, 0);
+    check_number("unwritten", "length", fetched.length, 12);
+    check_bytes("unwritten", "response", reply, response.at, response.len);
+    check_bytes("unwritten", "station idle", lent, start(&station), size);
+    free(lent);
+    free(reply);
+}
+
+/* ---- All of them --------------------------------------------------------------------------------------------- */
+
+static const struct group {
+    const char *name;
+    void (*run)(void);
+} groups[] = {
+    { "layout of the answers", layout },
+    { "fresh station and sizes", sizes },
+    { "worked example", worked },
+    { "marks", marks },
+    { "number 1", farms_and_axes },
+    { "sixteen farms", all_sixteen },
+    { "number 12 and flags", flags },
+    { "order of a cycle's numbers", cycle_order },
+    { "number 2, station size", station_sizes },
+    { "number 2, own part", overwritten_parts },
+    { "parts moved", moved_parts },
+    { "number 3 and reply sizes", reply_sizes },
+    { "numbers 4 to 8", frame_headers },
+    { "number 7, long frames", long_frames },
+    { "numbers 10 and 11", blocks },
+    { "order of a frame's numbers", frame_order },
+    { "numbers 8 and 9, waiting response", waiting },
+    { "neighbours", neighbours },
+    { "station moved", moved_station },
+    { "four reads of 947", four_947 },
+    { "response of 240 bytes", full_reply },
+    { "39 parameters", thirty_nine },
+    { "block of 240 bytes", full_write },
+    { "address rules", addresses },
+    { "cycles", cycles },
+    { "faults", faults },
+    { "unaligned memory", offsets },
+    { "bare memory", bare },
+    { "memory below a fence", fenced_above },
+    { "memory above a fence", fenced_below },
+    { "unwritten memory", unwritten },
+};
+
+int main(int argc, char **argv)
+{
+    loud = argc > 1 && strcmp(argv[1], "-v") == 0;
+    for (size_t i = 0; i < sizeof groups / sizeof groups[0]; i++) {
+        unsigned long before = checks;
+
+        groups[i].run();
+        printf("%6lu  %s\n", checks - before, groups[i].name);
+    }
+    give_back(&station);
+    printf("%lu checks, %lu failed\n", checks, failed);
+    return failed == 0 ? EXIT_SUCCESS : EXIT_FAILURE;
+}
