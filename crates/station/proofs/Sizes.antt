@@ -15,7 +15,8 @@ use Rattle.drive.specs.declared.Drive.{Drive}
 use Rattle.catalogue.specs.declared.Row.{Row}
 use Rattle.catalogue.specs.Element.{sizeCode, typeCode, inside, putElement}
 use Rattle.catalogue.proofs.Elements.{element-length}
-use Rattle.part.specs.Layout.{partSize, withResponse}
+use Rattle.part.specs.Layout.{partSize}
+use Rattle.part.proofs.Laws.{response-length}
 use Rattle.part.specs.Record.{putDrive}
 use Rattle.access.specs.declared.Checked.{Checked}
 use Rattle.access.specs.declared.Checked.the-variants.{Elements, Error}
@@ -37,10 +38,6 @@ one-of P false x y px py = py
 pub drive-length : (d : Drive) (p : List ℕ) → length (putDrive d p) ≡ length p
 unfolding putDrive
 drive-length d p = simp put-length
-
-pub response-length : (bs p : List ℕ) → length (withResponse bs p) ≡ length p
-unfolding withResponse
-response-length bs p = simp put-length
 
 -- a change
 abbrev Long : List ℕ → Changed → Type 0
