@@ -67,12 +67,13 @@ module _ (s : List ℕ) (e : readable blockLimit request s ≡ true) (h : Header
         let b = blocks-room p (walk (h .count) s 4) 4 (omega (arith, walk-whole s e h eh, count-few s e h eh)) in
         (omega (arith, o .next), omega (arith, o .next))
 
-    pub read-leaves : (t : Bool) → w .error ≡ t → withResponse (headerBytes (named h (cond t 0x81 0x01)) ++ take (w .next - 4) (drop 4 body)) p ≡ leaves (read r p)
-    read-leaves t q =
+    pub read-leaves : (t : Bool) → w .error ≡ t → (m : List ℕ) → m ≡ withResponse (headerBytes (named h (cond t 0x81 0x01)) ++ take (w .next - 4) (drop 4 body)) p → m ≡ leaves (read r p)
+    read-leaves t q m k =
         let bs = readBlocks p 4 (r .addresses) in
         let same : WroteAll l body 4 bs w = subst (λ (them : List Address). WroteAll l body 4 (readBlocks p 4 them) w) (walk-is s e h eh) o in
-        ap (λ (x : List ℕ). withResponse x p) (full (cond t 0x81 0x01) bs body w same (read-room .1))
-        ∙ ap (λ (x : Bool). withResponse (response .write (answerOf r (cond x 0x81 0x01) bs)) p) (sym q ∙ same .error)
+        k
+        ∙ (ap (λ (x : List ℕ). withResponse x p) (full (cond t 0x81 0x01) bs body w same (read-room .1))
+        ∙ ap (λ (x : Bool). withResponse (response .write (answerOf r (cond x 0x81 0x01) bs)) p) (sym q ∙ same .error))
 
   module _ (no : h .identifier ≡ 1 → ⊥) (q body : List ℕ) (d : Changes) (o : DidAll (changeAll (walk (h .count) s 4) (blocksIn (h .count) s (4 + h .count * 6)) p) q l body d) where
     pub change-room : (4 ≤ d .next) × (d .next ≤ blockLimit)
@@ -91,13 +92,14 @@ module _ (s : List ℕ) (e : readable blockLimit request s ≡ true) (h : Header
     pub change-stored : d .stored ≡ change r p .stored
     change-stored = same .stored
 
-    pub change-failed : d .error ≡ true → withResponse (headerBytes (named h 0x82) ++ take (d .next - 4) (drop 4 body)) q ≡ leaves (change r p)
-    change-failed t =
+    pub change-failed : d .error ≡ true → (m : List ℕ) → m ≡ withResponse (headerBytes (named h 0x82) ++ take (d .next - 4) (drop 4 body)) q → m ≡ leaves (change r p)
+    change-failed t m k =
         let f : hasError (c .answers) ≡ true = sym (same .wrote .error) ∙ t in
-        ap (λ (x : List ℕ). withResponse x q) (full 0x82 (c .answers) body (record { next = d .next; error = d .error }) (same .wrote) (change-room .1))
-        ∙ rw (f, same .part) refl
+        k
+        ∙ (ap (λ (x : List ℕ). withResponse x q) (full 0x82 (c .answers) body (record { next = d .next; error = d .error }) (same .wrote) (change-room .1))
+        ∙ rw (f, same .part) refl)
 
-    pub change-done : d .error ≡ false → withResponse (headerBytes (named h 0x02) ++ take (4 - 4) (drop 4 body)) q ≡ leaves (change r p)
-    change-done t =
+    pub change-done : d .error ≡ false → (m : List ℕ) → m ≡ withResponse (headerBytes (named h 0x02) ++ take (4 - 4) (drop 4 body)) q → m ≡ leaves (change r p)
+    change-done t m k =
         let f : hasError (c .answers) ≡ false = sym (same .wrote .error) ∙ t in
-        ap (λ (x : List ℕ). withResponse x q) (bare 0x02 []) ∙ rw (f, same .part) refl
+        k ∙ (ap (λ (x : List ℕ). withResponse x q) (bare 0x02 []) ∙ rw (f, same .part) refl)

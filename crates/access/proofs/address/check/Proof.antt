@@ -16,7 +16,8 @@ enum-told c = search needs
 
 returns : tie.Need-returns
 unfolding checked
-returns c = let a = c .before .before .before .args .a in
+returns c =
+    let a = c .before .before .before .args .a in
     ap (ofFound a) (sym (sym (c .before .before .find .ensures) ∙ c .enum-told .given .1))
 
 of-row-requires : tie.Need-of-row-requires
@@ -24,7 +25,8 @@ of-row-requires c κs = search needs
 
 returns-2 : tie.Need-returns-2
 unfolding checked
-returns-2 c = let a = c .before .before .before .before .before .args .a in
+returns-2 c =
+    let a = c .before .before .before .before .before .args .a in
     c .of-row .ensures ∙ ap (ofFound a) (sym (c .before .before .f .given .1) ∙ c .before .before .before .before .find .ensures)
 
 pub check-spec : {M : Type 1} → statement M

@@ -22,11 +22,13 @@ of-array-requires : tie.Need-of-array-requires
 of-array-requires c κs = search needs
 
 returns-4 : tie.Need-returns-4
-returns-4 c = let a = c .before .before .before .before .before .before .before .before .args in
+returns-4 c =
+    let a = c .before .before .before .before .before .before .before .before .args in
     c .of-simple .ensures ∙ row-simple (a .a) (a .r) (c .before .before .if3 .left) (c .before .if4 .taken)
 
 returns-5 : tie.Need-returns-5
-returns-5 c = let a = c .before .before .before .before .before .before .before .before .args in
+returns-5 c =
+    let a = c .before .before .before .before .before .before .before .before .args in
     c .of-array .ensures ∙ row-array (a .a) (a .r) (c .before .before .if3 .left) (c .before .if4 .left)
 
 pub of-row-spec : {M : Type 1} → statement M

@@ -1,5 +1,5 @@
 -- The header alone, or with 82 the blocks after it.
-use mathlib.Core.Path.{refl, _∙_}
+use mathlib.Core.Path.{refl}
 use denote.Ref.{now}
 use lib.ListN.{replicate}
 use Rattle.blocks.specs.Block.{blockLimit}
@@ -16,13 +16,15 @@ slice-aggregate-change-all : tie.Need-slice-aggregate-change-all
 slice-aggregate-change-all c = search needs
 
 change-all-requires : tie.Need-change-all-requires
-change-all-requires c κs = let a = c .before .before .before .before .before .args in
+change-all-requires c κs =
+    let a = c .before .before .before .before .before .args in
     let s = now (a .block) in
     let p = c .before .before .before .before .before .pre in
     rw (c .before .wide .ensures) (walk-whole s (p .0) (a .h) (p .1), blocks-whole s (p .0) (a .h) (p .1) (p .2), count-few s (p .0) (a .h) (p .1), refl)
 
 respond-requires : tie.Need-respond-requires
-respond-requires c κs = let a = c .before .before .before .before .before .before .before .before .before .before .before .args in
+respond-requires c κs =
+    let a = c .before .before .before .before .before .before .before .before .before .before .before .args in
     let p = c .before .before .before .before .before .before .before .before .before .before .before .pre in
     let d = c .before .before .before .before .before .change-all in
     let o = rw (c .before .before .before .before .before .before .before .wide .ensures) at (d .ensures) in
@@ -35,24 +37,26 @@ same-length : tie.Need-same-length
 same-length c = search needs
 
 returns : tie.Need-returns
-returns c = let a = c .before .before .before .before .before .before .before .before .before .before .before .before .before .before .args in
+returns c =
+    let a = c .before .before .before .before .before .before .before .before .before .before .before .before .before .before .args in
     let p = c .before .before .before .before .before .before .before .before .before .before .before .before .before .before .pre in
     let d = c .before .before .before .before .before .before .before .before .change-all in
     let o = rw (c .before .before .before .before .before .before .before .before .before .before .wide .ensures) at (d .ensures) in (
       change-stored (now (a .block)) (p .0) (a .h) (p .1) (replicate blockLimit 0) (now (a .part)) refl (p .2) _ _ (d .result) o,
-      c .before .before .respond .ensures ∙ change-failed (now (a .block)) (p .0) (a .h) (p .1) (replicate blockLimit 0) (now (a .part)) refl (p .2) _ _ (d .result) o (c .before .before .before .before .if1 .taken),
+      change-failed (now (a .block)) (p .0) (a .h) (p .1) (replicate blockLimit 0) (now (a .part)) refl (p .2) _ _ (d .result) o (c .before .before .before .before .if1 .taken) _ (c .before .before .respond .ensures),
     )
 
 same-length-2 : tie.Need-same-length-2
 same-length-2 c = search needs
 
 returns-2 : tie.Need-returns-2
-returns-2 c = let a = c .before .before .before .before .before .before .before .before .before .before .before .before .before .before .args in
+returns-2 c =
+    let a = c .before .before .before .before .before .before .before .before .before .before .before .before .before .before .args in
     let p = c .before .before .before .before .before .before .before .before .before .before .before .before .before .before .pre in
     let d = c .before .before .before .before .before .before .before .before .change-all in
     let o = rw (c .before .before .before .before .before .before .before .before .before .before .wide .ensures) at (d .ensures) in (
       change-stored (now (a .block)) (p .0) (a .h) (p .1) (replicate blockLimit 0) (now (a .part)) refl (p .2) _ _ (d .result) o,
-      c .before .before .respond2 .ensures ∙ change-done (now (a .block)) (p .0) (a .h) (p .1) (replicate blockLimit 0) (now (a .part)) refl (p .2) _ _ (d .result) o (c .before .before .before .before .if1 .left),
+      change-done (now (a .block)) (p .0) (a .h) (p .1) (replicate blockLimit 0) (now (a .part)) refl (p .2) _ _ (d .result) o (c .before .before .before .before .if1 .left) _ (c .before .before .respond2 .ensures),
     )
 
 pub answer-spec : {M : Type 1} → statement M

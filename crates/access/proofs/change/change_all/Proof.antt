@@ -49,7 +49,8 @@ same-length-2 : tie.Need-same-length-2 Inv-loop μ-loop
 same-length-2 c = c .before .before .before .before .loop .inv .size
 
 returns : tie.Need-returns Inv-loop μ-loop
-returns c = let l = c .before .before .before .before .loop in
+returns c =
+    let l = c .before .before .before .before .loop in
     absurd (walk-end (now (c .before .before .before .before .before .before .before .before .args .block)) (l .at) (l .left) (c .before .before .before .loop-test .taken) (l .inv .whole) (sym (c .before .before .address-at .ensures) ∙ c .enum-told .given .1))
 
 block-at-requires : tie.Need-block-at-requires Inv-loop μ-loop
@@ -68,7 +69,8 @@ same-length-4 : tie.Need-same-length-4 Inv-loop μ-loop
 same-length-4 c = c .before .before .before .before .before .before .before .before .loop .inv .size
 
 returns-2 : tie.Need-returns-2 Inv-loop μ-loop
-returns-2 c = let l = c .before .before .before .before .before .before .before .before .loop in
+returns-2 c =
+    let l = c .before .before .before .before .before .before .before .before .loop in
     absurd (blocks-end (now (c .before .before .before .before .before .before .before .before .before .before .before .before .args .block)) (l .from) (l .left) (c .before .before .before .before .before .before .before .loop-test .taken) (l .inv .valued) (sym (c .before .before .block-at .ensures) ∙ c .enum-told2 .given .1))
 
 change-one-requires : tie.Need-change-one-requires Inv-loop μ-loop
@@ -90,7 +92,8 @@ loop-less : tie.Need-loop-less Inv-loop μ-loop
 loop-less c = search needs
 
 loop-again : tie.Need-loop-again Inv-loop μ-loop
-loop-again c = let a = c .before .before .before .before .before .before .before .before .before .before .before .before .before .before .before .before .before .before .before .before .before .before .before .before .args in
+loop-again c =
+    let a = c .before .before .before .before .before .before .before .before .before .before .before .before .before .before .before .before .before .before .before .before .before .before .before .before .args in
     let l = c .before .before .before .before .before .before .before .before .before .before .before .before .before .before .before .before .before .before .before .before .loop in
     let v = c .before .before .before .before .before .before .before .before .before .before .before .before .before .before .before .before .s .given in
     let u = c .before .before .before .before .before .before .before .before .before .before .before .before .b .given in
@@ -113,7 +116,8 @@ same-length-6 : tie.Need-same-length-6 Inv-loop μ-loop
 same-length-6 c = c .before .loop .inv .size
 
 returns-3 : tie.Need-returns-3 Inv-loop μ-loop
-returns-3 c = let a = c .before .before .before .before .before .args in
+returns-3 c =
+    let a = c .before .before .before .before .before .args in
     let l = c .before .loop in
     finish (now (a .block)) (a .n) (now (a .part)) (now (a .out)) (l .part) (l .out) (l .at) (l .from) (l .all) (l .left) (omega arith) (search needs) (omega arith) (search needs) (l .inv)
 

@@ -12,7 +12,8 @@ refuse-requires : tie.Need-refuse-requires
 refuse-requires c κs = search needs
 
 returns : tie.Need-returns
-returns c = let a = c .before .before .before .before .before .args in
+returns c =
+    let a = c .before .before .before .before .before .args in
     let s = now (a .block) in
     let st = c .before .before .before .before .before .pre .1 in
     is-locked (a .a) (blockIn s (a .at)) (now (a .part)) (now (a .part)) (a .r) (a .n) (a .h .format) (a .h .count) (c .refuse .result) (head-format s (a .at) (a .h) st) (head-count s (a .at) (a .h) st)
@@ -26,7 +27,8 @@ refuse-requires-2 : tie.Need-refuse-requires-2
 refuse-requires-2 c κs = search needs
 
 returns-2 : tie.Need-returns-2
-returns-2 c = let a = c .before .before .before .before .before .before .before .args in
+returns-2 c =
+    let a = c .before .before .before .before .before .before .before .args in
     let s = now (a .block) in
     let st = c .before .before .before .before .before .before .before .pre .1 in
     let f = c .before .before .is-format in
@@ -42,7 +44,8 @@ refuse-requires-3 : tie.Need-refuse-requires-3
 refuse-requires-3 c κs = search needs
 
 returns-3 : tie.Need-returns-3
-returns-3 c = let a = c .before .before .before .before .before .before .before .before .before .args in
+returns-3 c =
+    let a = c .before .before .before .before .before .before .before .before .before .args in
     let s = now (a .block) in
     let st = c .before .before .before .before .before .before .before .before .before .pre .1 in
     let f = c .before .before .before .before .is-format in
@@ -53,14 +56,16 @@ returns-3 c = let a = c .before .before .before .before .before .before .before 
     (did-refused 0x18 (now (a .part)) (c .refuse3 .result) (c .refuse3 .ensures))
 
 store-requires : tie.Need-store-requires
-store-requires c κs = let a = c .before .before .before .before .before .before .before .before .before .args in
+store-requires c κs =
+    let a = c .before .before .before .before .before .before .before .before .before .args in
     (search needs, sym (head-count (now (a .block)) (a .at) (a .h) (c .before .before .before .before .before .before .before .before .before .pre .1)) ∙ c .before .if3 .left)
 
 same-length : tie.Need-same-length
 same-length c = search needs
 
 returns-4 : tie.Need-returns-4
-returns-4 c = let a = c .before .before .before .before .before .before .before .before .before .before .before .before .args in
+returns-4 c =
+    let a = c .before .before .before .before .before .before .before .before .before .before .before .before .args in
     let s = now (a .block) in
     let st = c .before .before .before .before .before .before .before .before .before .before .before .before .pre .1 in
     let f = c .before .before .before .before .before .before .before .is-format in

@@ -22,11 +22,13 @@ enum-known-c-2 : tie.Need-enum-known-c-2
 enum-known-c-2 c = search needs
 
 change-elements-requires : tie.Need-change-elements-requires
-change-elements-requires c κs = let v = c .before .before .c2 .given in
+change-elements-requires c κs =
+    let v = c .before .before .c2 .given in
     (checked-inside (c .before .before .before .before .before .before .before .args .a) (v .0 .0) (v .0 .1 .0) (sym (c .before .before .before .before .check .ensures) ∙ v .1), search needs)
 
 returns : tie.Need-returns
-returns c = let a = c .before .before .before .before .before .before .before .args in
+returns c =
+    let a = c .before .before .before .before .before .before .before .args in
     let v = c .before .before .c .given in
     change-is (a .a) (blockIn (now (a .block)) (a .at)) (now (a .part)) (now (a .part)) (c .refuse .result) (Error (v .0 .0)) (sym (v .1) ∙ c .before .before .before .before .check .ensures)
     (did-refused (v .0 .0) (now (a .part)) (c .refuse .result) (c .refuse .ensures))
@@ -35,7 +37,8 @@ same-length : tie.Need-same-length
 same-length c = search needs
 
 returns-2 : tie.Need-returns-2
-returns-2 c = let a = c .before .before .before .before .before .before .before .before .before .before .args in
+returns-2 c =
+    let a = c .before .before .before .before .before .before .before .before .before .before .args in
     let v = c .before .before .before .before .before .c2 .given in
     let d = c .before .before .change-elements in
     change-is (a .a) (blockIn (now (a .block)) (a .at)) (now (a .part)) (d .last .0) (d .result) (Elements (v .0 .0) (v .0 .1 .0)) (sym (v .1) ∙ c .before .before .before .before .before .before .before .check .ensures) (d .ensures)

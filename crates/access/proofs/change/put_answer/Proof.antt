@@ -15,7 +15,8 @@ same-length : tie.Need-same-length
 same-length c = search needs
 
 returns : tie.Need-returns
-returns c = let a = c .before .before .before .before .before .before .args in
+returns c =
+    let a = c .before .before .before .before .before .before .args in
     let f = c .before .before .put-failed in
     subst (λ (b : Block). Wrote (now (a .out)) (f .last .0) (a .at) b (f .result)) (answer-error (a .d) (c .before .before .before .before .if1 .taken)) (f .ensures)
 
@@ -29,7 +30,8 @@ same-length-2 : tie.Need-same-length-2
 same-length-2 c = search needs
 
 returns-2 : tie.Need-returns-2
-returns-2 c = let a = c .before .before .before .before .before .before .args in
+returns-2 c =
+    let a = c .before .before .before .before .before .before .args in
     answer-empty (now (a .out)) (c .before .before .put-empty .last .0) (a .at) (a .d) (c .before .before .before .before .if1 .left) (c .before .before .put-empty .ensures)
 
 pub put-answer-spec : {M : Type 1} → statement M

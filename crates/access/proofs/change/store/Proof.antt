@@ -34,7 +34,8 @@ same-length : tie.Need-same-length Inv-loop μ-loop
 same-length c = c .before .before .before .before .loop .inv .size
 
 returns : tie.Need-returns Inv-loop μ-loop
-returns c = let a = c .before .before .before .before .before .before .before .args in
+returns c =
+    let a = c .before .before .before .before .before .before .before .args in
     let l = c .before .before .before .before .loop in
     let v = c .before .before .value-at in
     store-stop (a .r) (a .i) (blockIn (now (a .block)) (a .at) .values) (now (a .part)) (l .part) (l .j) (l .inv) (v .result) (omega arith) (v .ensures ∙ value-is (now (a .block)) (a .at) (l .j)) (sym (c .before .is-inside .ensures) ∙ not-true (c .before .is-inside .result) (c .if1 .taken)) (omega arith)
@@ -52,7 +53,8 @@ loop-less : tie.Need-loop-less Inv-loop μ-loop
 loop-less c = search needs
 
 loop-again : tie.Need-loop-again Inv-loop μ-loop
-loop-again c = let a = c .before .before .before .before .before .before .before .before .before .before .before .args in
+loop-again c =
+    let a = c .before .before .before .before .before .before .before .before .before .before .before .args in
     let l = c .before .before .before .before .before .before .before .before .loop in
     let v = c .before .before .before .before .before .before .value-at in
     let m = c .before .before .put-element in
@@ -62,7 +64,8 @@ same-length-2 : tie.Need-same-length-2 Inv-loop μ-loop
 same-length-2 c = c .before .loop .inv .size
 
 returns-2 : tie.Need-returns-2 Inv-loop μ-loop
-returns-2 c = let a = c .before .before .before .before .args in
+returns-2 c =
+    let a = c .before .before .before .before .args in
     let l = c .before .loop in
     let e : l .j ≡ a .n = omega arith in
     subst (λ (k : ℕ). Did (storeFrom (a .r) (a .i) (blockIn (now (a .block)) (a .at) .values) (now (a .part))) (l .part) (record { failed = false; error = 0; stored = k })) e

@@ -42,7 +42,8 @@ loop-less : tie.Need-loop-less Inv-loop μ-loop
 loop-less c = search needs
 
 loop-again : tie.Need-loop-again Inv-loop μ-loop
-loop-again c = let a = c .before .before .before .before .args in
+loop-again c =
+    let a = c .before .before .before .before .args in
     let l = c .before .before .loop in (
       search needs,
       ap (λ (v : List ℕ). set v (l .j) (c .element .result)) (l .inv .1)
@@ -51,7 +52,8 @@ loop-again c = let a = c .before .before .before .before .args in
     )
 
 returns : tie.Need-returns Inv-loop μ-loop
-returns c = let a = c .before .before .before .args in
+returns c =
+    let a = c .before .before .before .args in
     let l = c .before .loop in
     let e : l .j ≡ a .n = omega arith in
     l .inv .1 ∙ ap (λ (k : ℕ). gathered (a .r) (a .i) k (now (a .part))) e

@@ -38,7 +38,8 @@ same-length : tie.Need-same-length
 same-length c = search needs
 
 returns : tie.Need-returns
-returns c = let a = c .before .before .before .before .before .before .before .before .before .args in
+returns c =
+    let a = c .before .before .before .before .before .before .before .before .before .args in
     let z = c .before .before .before .before .before .block-size in
     let k = c .before .before .before .before .before .before .size-code in
     subst (λ (b : Block). Wrote (now (a .out)) (c .before .before .put-failed .last .0) (a .at) b (c .before .before .put-failed .result))
@@ -52,7 +53,8 @@ array-share-prefix-values : tie.Need-array-share-prefix-values
 array-share-prefix-values c = search needs
 
 slice-aggregate-put-block : tie.Need-slice-aggregate-put-block
-slice-aggregate-put-block c = let a = c .before .before .before .before .before .before .before .before .args in
+slice-aggregate-put-block c =
+    let a = c .before .before .before .before .before .before .before .before .args in
     sym (ap (λ (v : List ℕ). length (take (a .n) v)) (c .before .before .gather .ensures) ∙ (ap length (gather-taken (a .r) (now (a .part)) (a .i) (a .n)) ∙ elements-length (a .r) (now (a .part)) (a .i) (a .n)))
 
 put-block-requires : tie.Need-put-block-requires
@@ -65,7 +67,8 @@ same-length-2 : tie.Need-same-length-2
 same-length-2 c = search needs
 
 returns-2 : tie.Need-returns-2
-returns-2 c = let a = c .before .before .before .before .before .before .before .before .before .before .before .args in
+returns-2 c =
+    let a = c .before .before .before .before .before .before .before .before .before .before .before .args in
     let z = c .before .before .before .before .before .before .before .block-size in
     let k = c .before .before .before .before .before .before .before .before .size-code in
     elements-written (a .r) (a .i) (a .n) (now (a .part)) (a .at) (a .after) (k .result) (z .result) (k .ensures) (z .ensures)

@@ -31,7 +31,8 @@ same-length : tie.Need-same-length Inv-loop μ-loop
 same-length c = c .before .before .before .before .loop .inv .size
 
 returns : tie.Need-returns Inv-loop μ-loop
-returns c = let l = c .before .before .before .before .loop in
+returns c =
+    let l = c .before .before .before .before .loop in
     absurd (walk-end (now (c .before .before .before .before .before .before .before .before .args .block)) (l .at) (l .left) (c .before .before .before .loop-test .taken) (l .inv .whole) (sym (c .before .before .address-at .ensures) ∙ c .enum-told .given .1))
 
 sub-left : tie.Need-sub-left Inv-loop μ-loop
@@ -47,7 +48,8 @@ loop-less : tie.Need-loop-less Inv-loop μ-loop
 loop-less c = search needs
 
 loop-again : tie.Need-loop-again Inv-loop μ-loop
-loop-again c = let a = c .before .before .before .before .before .before .before .before .before .before .before .before .before .before .args in
+loop-again c =
+    let a = c .before .before .before .before .before .before .before .before .before .before .before .before .before .before .args in
     let l = c .before .before .before .before .before .before .before .before .before .before .loop in
     let v = c .before .before .before .before .before .before .s .given in
     let o = c .before .before .before .read-one in
@@ -58,7 +60,8 @@ same-length-2 : tie.Need-same-length-2 Inv-loop μ-loop
 same-length-2 c = c .before .loop .inv .size
 
 returns-2 : tie.Need-returns-2 Inv-loop μ-loop
-returns-2 c = let a = c .before .before .before .before .before .args in
+returns-2 c =
+    let a = c .before .before .before .before .before .args in
     let l = c .before .loop in
     finish (now (a .part)) (now (a .block)) (a .n) (now (a .out)) (l .out) (l .at) (l .used) (l .error) (l .left) (omega arith) (search needs) (omega arith) (search needs) (l .inv)
 

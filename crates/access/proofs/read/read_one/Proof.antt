@@ -23,7 +23,8 @@ enum-known-c-2 : tie.Need-enum-known-c-2
 enum-known-c-2 c = search needs
 
 put-elements-requires : tie.Need-put-elements-requires
-put-elements-requires c κs = let v = c .before .before .c2 .given in
+put-elements-requires c κs =
+    let v = c .before .before .c2 .given in
     let a = c .before .before .before .before .before .before .before .args in
     (checked-inside (a .a) (v .0 .0) (v .0 .1 .0) (sym (c .before .before .before .before .check .ensures) ∙ v .1), search needs, search needs)
 
@@ -31,7 +32,8 @@ same-length : tie.Need-same-length
 same-length c = search needs
 
 returns : tie.Need-returns
-returns c = let a = c .before .before .before .before .before .before .before .before .before .before .args in
+returns c =
+    let a = c .before .before .before .before .before .before .before .before .before .before .args in
     let v = c .before .before .before .before .before .c .given in
     let f = c .before .before .put-failed in
     subst (λ (b : Block). Wrote (now (a .out)) (f .last .0) (a .at) b (f .result))
@@ -42,7 +44,8 @@ same-length-2 : tie.Need-same-length-2
 same-length-2 c = search needs
 
 returns-2 : tie.Need-returns-2
-returns-2 c = let a = c .before .before .before .before .before .before .before .before .before .before .args in
+returns-2 c =
+    let a = c .before .before .before .before .before .before .before .before .before .before .args in
     let v = c .before .before .before .before .before .c2 .given in
     let f = c .before .before .put-elements in
     subst (λ (b : Block). Wrote (now (a .out)) (f .last .1 .1 .1 .1 .0) (a .at) b (f .result))

@@ -19,7 +19,8 @@ same-length : tie.Need-same-length
 same-length c = search needs
 
 returns : tie.Need-returns
-returns c = let a = c .before .before .before .before .before .args in
+returns c =
+    let a = c .before .before .before .before .before .args in
     record {
       bytes = c .before .before .put-error .ensures ∙ ap (put (now (a .out)) (a .at)) (sym (error-bytes (a .error)));
       next = ap (λ (k : ℕ). a .at + k) (sym (error-size (a .error)));

@@ -27,7 +27,8 @@ same-length : tie.Need-same-length
 same-length c = search needs
 
 returns : tie.Need-returns
-returns c = let a = c .before .before .before .before .before .before .before .before .args in
+returns c =
+    let a = c .before .before .before .before .before .before .before .before .args in
     c .before .before .put-response .ensures
     ∙ (ap (λ (l : List ℕ). withResponse (take (a .n) l) (now (a .part))) (c .before .before .before .before .before .put-header .ensures)
     ∙ ap (λ (l : List ℕ). withResponse l (now (a .part))) (header-over (a .body) (record { reference = a .h .reference; identifier = a .id; axis = a .h .axis; count = a .h .count }) (a .n) (omega arith) (omega arith)))
