@@ -3,6 +3,8 @@ use mathlib.Core.Path.{_≡_}
 use mathlib.Core.Bool.{cond}
 use Prim.Native.Nat.{ℕ, _+_, _≤_, _<_}
 use native.Mathlib.Numerals.{add-one}
+use native.Mathlib.Decide.{decLe}
+use native.Mathlib.Omega.{arith}
 use lib.Dec.{eqb}
 use lib.ListN.{length, drop, drop-of-length-le, List·getD-eq-default}
 use lib.Seq.{drop-cons}
@@ -19,3 +21,11 @@ find-end i pnu h = rw (drop-of-length-le rows {i = i} h)
 pub row-end : (i : ℕ) → length rows ≤ i → rowAt i ≡ noRow
 unfolding rowAt
 row-end i h = List·getD-eq-default rows noRow {n = i} h
+
+-- a number that is not the next one is above it
+pub above : (k i : ℕ) → k ≤ i → (i ≡ k → ⊥) → k + 1 ≤ i
+above k i h n = go (decLe (k + 1) i)
+  where
+    go : Dec (k + 1 ≤ i) → k + 1 ≤ i
+    go (yes y) = y
+    go (no m) = absurd (n (omega arith))

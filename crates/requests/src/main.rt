@@ -4,7 +4,6 @@ use blocks::BlockAt;
 use blocks::Header;
 use blocks::reader::Address;
 use blocks::reader::FIRST;
-use catalogue::Row;
 
 const AXIS: u8 = 1;
 
@@ -62,22 +61,9 @@ fn work(label: &[u8], mut part: Part, block: &[u8]) -> Part {
     part
 }
 
-// Every element of a row at its fresh value.
-fn fresh_row(part: &mut [u8], r: Row) {
-    for i in 0..r.count {
-        catalogue::put_element(part, r, i, catalogue::fresh_of(r, i));
-    }
-}
-
-fn fresh_rows(part: &mut [u8]) {
-    for i in 0..catalogue::ROWS {
-        fresh_row(part, catalogue::row_at(i));
-    }
-}
-
 fn fresh() -> Part {
     let mut part = [0u8; part::SIZE];
-    fresh_rows(&mut part);
+    part::fresh(&mut part);
     part
 }
 
