@@ -1,0 +1,26 @@
+# Sourced: how programs for the library's processor are built and started here. Sets `cc` and, where this machine is another,
+# `emulated`, the words that start a program. Installs what is missing by the name of its Debian package.
+
+stop() {
+    echo "$0: $*" >&2
+    exit 1
+}
+
+# need TOOL PACKAGE : the Debian package that has the tool.
+need() {
+    command -v "$1" >/dev/null && return
+    [ "$(id -u)" = 0 ] || stop "$1 is missing: install the package $2"
+    { apt-get update -q && apt-get install -y -q "$2"; } >&2 || stop "could not install the package $2"
+}
+
+if [ "$(uname -m)" = x86_64 ]; then
+    need gcc gcc
+    cc=gcc
+    emulated=()
+else
+    need x86_64-linux-gnu-gcc gcc-x86-64-linux-gnu
+    need qemu-x86_64 qemu-user
+    cc=x86_64-linux-gnu-gcc
+    emulated=(qemu-x86_64 -L /usr/x86_64-linux-gnu)
+fi
+strict=(-std=c11 -Wall -Wextra -Wpedantic -Werror)

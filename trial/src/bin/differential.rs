@@ -1,0 +1,264 @@
+//! Drives the library and its twin with the same calls and stops at the first difference.
+
+#![forbid(unsafe_code)]
+#![deny(warnings)]
+
+use std::process::ExitCode;
+use std::time::{Duration, Instant};
+use trial::blocks::{self, Kind};
+use trial::meaning::{field_at, PART, STATION};
+use trial::pair::{hex, Answer, Call, Difference, Pair, GUARD, REPLY_MAX};
+use trial::parts;
+use trial::random::Random;
+use trial::tally::{Setting, Tally};
+use trial::words;
+use twin::{well_formed, AXES};
+
+const USAGE: &str = "usage: differential [--calls N] [--seed S] [--minutes M]";
+const CALLS: u64 = 1_000_000;
+const SEED: u64 = 1;
+/// All parts are compared after so many calls.
+const ALL_PARTS: u64 = 1000;
+/// A run of so many calls that misses something the tally asks for has failed too.
+const REACHES_ALL: u64 = 200_000;
+/// Farms, axes and thus owners that do not exist, some of which a silent conversion would make exist.
+const NOBODY: [u32; 10] = [0, 17, 18, 255, 256, 257, 272, 0x0001_0001, 0x8000_0001, u32::MAX];
+
+fn main() -> ExitCode {
+    let options = match Options::from_arguments() {
+        Ok(options) => options,
+        Err(wrong) => {
+            eprintln!("{wrong}\n{USAGE}");
+            return ExitCode::from(2);
+        }
+    };
+    println!("seed {}", options.seed);
+    match run(&options) {
+        Ok(tally) => finish(&tally),
+        Err(found) => {
+            println!("{found}\nseed {}", options.seed);
+            ExitCode::FAILURE
+        }
+    }
+}
+
+fn finish(tally: &Tally) -> ExitCode {
+    print!("{tally}");
+    let missing = tally.missing();
+    if !missing.is_empty() {
+        println!("not met    {}", missing.join(", "));
+    }
+    println!("{} calls, 0 disagreements", tally.calls);
+    if missing.is_empty() || tally.calls < REACHES_ALL {
+        return ExitCode::SUCCESS;
+    }
+    println!("failed: so many calls should have met all");
+    ExitCode::FAILURE
+}
+
+struct Options {
+    calls: u64,
+    seed: u64,
+    time: Option<Duration>,
+}
+
+impl Options {
+    fn from_arguments() -> Result<Options, String> {
+        let mut options = Options { calls: CALLS, seed: SEED, time: None };
+        let mut arguments = std::env::args().skip(1);
+        while let Some(name) = arguments.next() {
+            let value = arguments.next().ok_or(format!("{name} wants a value"))?;
+            let wrong = |_| format!("{name} {value} is no number");
+            match name.as_str() {
+                "--calls" => options.calls = value.parse().map_err(wrong)?,
+                "--seed" => options.seed = value.parse().map_err(wrong)?,
+                "--minutes" => options.time = Some(Duration::from_secs(60 * value.parse::<u64>().map_err(wrong)?)),
+                _ => return Err(format!("{name} is no option")),
+            }
+        }
+        Ok(options)
+    }
+}
+
+/// Calls until the count or the time is reached.
+fn run(options: &Options) -> Result<Tally, String> {
+    let mut trial = Trial {
+        random: Random::new(options.seed),
+        pair: Pair::fresh().map_err(|difference| format!("disagreement at the first fresh station: {difference:?}"))?,
+        tally: Tally::default(),
+        altered: 0,
+    };
+    let start = Instant::now();
+    let mut said = start;
+    loop {
+        let calls = trial.tally.calls;
+        match options.time {
+            None if calls >= options.calls => break,
+            Some(time) if calls.is_multiple_of(ALL_PARTS) && start.elapsed() >= time => break,
+            _ => {}
+        }
+        trial.step()?;
+        if options.time.is_some() && calls.is_multiple_of(ALL_PARTS) && said.elapsed() >= Duration::from_secs(10) {
+            println!("{} s, {calls} calls", start.elapsed().as_secs());
+            said = Instant::now();
+        }
+    }
+    Ok(trial.tally)
+}
+
+/// A run under way.
+struct Trial {
+    random: Random,
+    pair: Pair,
+    tally: Tally,
+    altered: usize,
+}
+
+impl Trial {
+    /// One call, in one of the settings.
+    fn step(&mut self) -> Result<(), String> {
+        let index = self.random.below(AXES);
+        match self.random.below(1000) {
+            0..=99 => self.altered(index)?,
+            100..=119 => self.altered_elsewhere(index)?,
+            120..=149 => self.planted(index)?,
+            150..=159 => self.resized(index)?,
+            160 if self.random.one_in(50) => self.call(Call::Fresh, STATION, Setting::Left, Kind::Free)?,
+            _ => {
+                let (call, kind) = self.make_call(index);
+                self.call(call, STATION, Setting::Left, kind)?;
+            }
+        }
+        if self.tally.calls.is_multiple_of(ALL_PARTS) {
+            self.pair.compare_all().map_err(|difference| format!("disagreement: {difference:?}"))?;
+        }
+        Ok(())
+    }
+
+    /// Each byte of a part in turn holds something else for one call, and is then put back.
+    fn altered(&mut self, index: usize) -> Result<(), String> {
+        let kept = *self.pair.part(index);
+        let mut part = kept;
+        let place = self.altered % PART;
+        self.altered += 1;
+        part[place] = self.other_byte(kept[place]);
+        self.pair.put(index, &part);
+        let (call, kind) = self.make_call(index);
+        let done = self.call(call, STATION, Setting::Altered, kind);
+        self.pair.put(index, &kept);
+        done.map_err(|found| format!("{found}\naltered: {:?} of the part was {:02X}", field_at(place), kept[place]))
+    }
+
+    /// A neighbour, a bit's worth of difference, or any other byte.
+    fn other_byte(&mut self, byte: u8) -> u8 {
+        match self.random.below(4) {
+            0 => byte.wrapping_add(1),
+            1 => byte.wrapping_sub(1),
+            2 => byte ^ 1 << self.random.below(8),
+            _ => byte ^ (1 + self.random.below(255) as u8),
+        }
+    }
+
+    /// What another's part holds is nothing to the caller.
+    fn altered_elsewhere(&mut self, index: usize) -> Result<(), String> {
+        let other = (index + 1 + self.random.below(AXES - 1)) % AXES;
+        let kept = *self.pair.part(other);
+        let mut part = kept;
+        let place = self.random.below(PART);
+        part[place] = self.other_byte(kept[place]);
+        self.pair.put(other, &part);
+        let (call, kind) = self.make_call(index);
+        let done = self.call(call, STATION, Setting::AlteredElsewhere, kind);
+        self.pair.put(other, &kept);
+        done
+    }
+
+    /// A made-up part stays if it is well-formed.
+    fn planted(&mut self, index: usize) -> Result<(), String> {
+        let kept = *self.pair.part(index);
+        let part = parts::part(&mut self.random, index as u8 + 1);
+        self.pair.put(index, &part);
+        let stays = trial::meaning::decode(&part).is_ok_and(|axis| well_formed(&axis, index as u8 + 1));
+        let (call, kind) = self.make_call(index);
+        self.call(call, STATION, Setting::Planted, kind)?;
+        if !stays {
+            self.pair.put(index, &kept);
+        }
+        Ok(())
+    }
+
+    fn resized(&mut self, index: usize) -> Result<(), String> {
+        let sizes = [STATION - 1, STATION + 1, STATION - PART, STATION + PART, PART, 0, 1, STATION + GUARD];
+        let bytes = self.random.pick(&sizes);
+        let (mut call, kind) = if self.random.one_in(4) { (Call::Fresh, Kind::Free) } else { self.make_call(index) };
+        if let (true, Call::Cycle(number, _) | Call::Frame(number, ..)) = (self.random.one_in(8), &mut call) {
+            *number = self.random.pick(&NOBODY);
+        }
+        self.call(call, bytes, Setting::Resized, kind)
+    }
+
+    /// A call of the owner of this part, or seldom of nobody.
+    fn make_call(&mut self, index: usize) -> (Call, Kind) {
+        let random = &mut self.random;
+        let number = if random.one_in(150) { random.pick(&NOBODY) } else { index as u32 + 1 };
+        let part = self.pair.axis(index);
+        if random.one_in(2) {
+            return (Call::Cycle(number, words::inputs(random, part)), Kind::Free);
+        }
+        let waiting = part.waiting.as_ref().map(|waiting| waiting.length);
+        let (kind, frame) = blocks::frame(random, index as u8 + 1, waiting);
+        let reply = match random.below(40) {
+            0 => 243,
+            1 => random.pick(&[0, 0, 1, 4, 240, 242]),
+            2 => random.below(REPLY_MAX),
+            3..=12 => 300,
+            _ => 244,
+        };
+        (Call::Frame(number, frame, reply), kind)
+    }
+
+    fn call(&mut self, call: Call, bytes: usize, setting: Setting, kind: Kind) -> Result<(), String> {
+        let before = call.owner().map(|owner| self.pair.axis(owner).clone());
+        let pattern = self.random.byte();
+        match self.pair.call(&call, bytes, pattern) {
+            Err(difference) => Err(self.told(&call, bytes, setting, &difference)),
+            Ok(answer) => {
+                self.count(&call, &answer, setting, kind, before);
+                Ok(())
+            }
+        }
+    }
+
+    fn count(&mut self, call: &Call, answer: &Answer, setting: Setting, kind: Kind, before: Option<twin::Axis>) {
+        let tally = &mut self.tally;
+        tally.setting(setting);
+        match (call, answer) {
+            (Call::Cycle(_, inputs), Answer::Cycle(cycled)) => {
+                tally.cycle(cycled.number);
+                if let (0, Some(before), Some(owner)) = (cycled.number, before, call.owner()) {
+                    tally.step(&before, self.pair.axis(owner), inputs);
+                }
+            }
+            (Call::Frame(_, frame, _), Answer::Frame(framed)) => {
+                tally.frame(kind, framed.number, framed.stored);
+                let waiting = call.owner().and_then(|owner| self.pair.axis(owner).waiting.as_ref());
+                if let (0, 0x5F, Some(waiting)) = (framed.number, frame.first().copied().unwrap_or(0), waiting) {
+                    tally.response(&waiting.bytes[..waiting.length]);
+                }
+            }
+            _ => tally.fresh(),
+        }
+    }
+
+    /// All that is needed to see the difference again.
+    fn told(&self, call: &Call, bytes: usize, setting: Setting, difference: &Difference) -> String {
+        let Difference { what, ours, twin } = difference;
+        let part = call.owner().map_or(String::new(), |owner| {
+            format!("\npart before  {}\npart after   {}", hex(self.pair.part_before(owner)), hex(self.pair.part(owner)))
+        });
+        format!(
+            "disagreement: {what}\ncall {} in memory {setting:?}, {bytes} bytes\n{call}\nours  {ours}\ntwin  {twin}{part}",
+            self.tally.calls
+        )
+    }
+}

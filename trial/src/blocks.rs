@@ -1,0 +1,274 @@
+//! Frames: readable blocks of every kind, the reads that fetch the answers, and damage of every sort.
+
+use crate::random::Random;
+use twin::{Parameter, Type, BLOCK_MAX};
+
+/// What a frame was made to be; damage may have changed it since.
+#[derive(Clone, Copy, Debug, PartialEq, Eq)]
+pub enum Kind {
+    /// A write of a request.
+    Request,
+    /// A write of a change.
+    Change,
+    /// A read.
+    Read,
+    /// Any bytes.
+    Free,
+}
+
+const HEADER: usize = 4;
+
+/// The parameters, the writable ones last.
+const KNOWN: [u16; 15] =
+    [930, 944, 947, 965, 10100, 10101, 10102, 10103, 9900, 9901, 10111, 30001, 30002, 30003, 30004];
+const WRITABLE: &[u16] = KNOWN.split_at(8).1;
+const UNKNOWN: [u16; 14] = [0, 1, 929, 931, 943, 945, 946, 948, 964, 9899, 9902, 10104, 30005, 65535];
+const FORMATS: [u8; 9] = [0x41, 2, 5, 0x42, 3, 6, 0x43, 4, 7];
+
+/// A frame of the farm of this axis, which may have a response of this length waiting.
+pub fn frame(random: &mut Random, axis: u8, waiting: Option<usize>) -> (Kind, Vec<u8>) {
+    if random.one_in(40) {
+        return (Kind::Free, free(random));
+    }
+    let reads = random.percent(if waiting.is_some() { 80 } else { 8 });
+    let (kind, mut frame) = if reads { (Kind::Read, read(random, waiting.unwrap_or(8))) } else { write(random, axis) };
+    if random.one_in(9) {
+        damage(random, &mut frame);
+    }
+    (kind, frame)
+}
+
+/// A read, mostly of enough bytes.
+fn read(random: &mut Random, waiting: usize) -> Vec<u8> {
+    let wanted = match random.below(12) {
+        0..=5 => BLOCK_MAX as u8,
+        6 | 7 => waiting as u8,
+        8 => waiting.wrapping_sub(1) as u8,
+        9 => random.pick(&[0, 3, 4, 239, 241, 242, 255]),
+        10 => waiting.wrapping_add(1) as u8,
+        _ => random.byte(),
+    };
+    vec![0x5E, 0, 47, wanted]
+}
+
+fn write(random: &mut Random, axis: u8) -> (Kind, Vec<u8>) {
+    let axis = if random.one_in(30) { random.pick(&[0, 1, 2, 16, 17, axis ^ 1, axis + 16, 255]) } else { axis };
+    let (kind, block) =
+        if random.one_in(2) { (Kind::Request, request(random, axis)) } else { (Kind::Change, change(random, axis)) };
+    (kind, framed(&block))
+}
+
+/// The write frame of a block, with its true length as far as a byte holds it.
+pub fn framed(block: &[u8]) -> Vec<u8> {
+    let mut frame = vec![0x5F, 0, 47, block.len() as u8];
+    frame.extend(block);
+    frame
+}
+
+fn reference(random: &mut Random) -> u8 {
+    if random.one_in(100) {
+        return 0;
+    }
+    1 + random.below(255) as u8
+}
+
+/// How many parameters: often one, now and then as many as there may be, or one more.
+fn parameters(random: &mut Random) -> usize {
+    match random.below(10) {
+        0..=3 => 1,
+        4..=6 => 2 + random.below(5),
+        7 | 8 => 7 + random.below(31),
+        _ => random.pick(&[37, 38, 39, 39, 40]),
+    }
+}
+
+fn request(random: &mut Random, axis: u8) -> Vec<u8> {
+    let count = parameters(random);
+    let long = random.one_in(3);
+    let right = random.one_in(2);
+    let mut block = vec![reference(random), 1, axis, count as u8];
+    for _ in 0..count {
+        let pnu =
+            if long && !random.one_in(6) { random.pick(&[947, 947, 9901, 965]) } else { pnu(random, &KNOWN, right) };
+        block.extend(address(random, pnu, right));
+    }
+    block
+}
+
+/// A change of as many parameters as were wished for and fit; now and then filled up to the last bytes of a block.
+fn change(random: &mut Random, axis: u8) -> Vec<u8> {
+    let wish = parameters(random);
+    let right = random.one_in(2);
+    let (mut addresses, mut values) = (Vec::new(), Vec::new());
+    for _ in 0..wish {
+        let known = if right || random.percent(85) { WRITABLE } else { &KNOWN };
+        let pnu = pnu(random, known, right);
+        let address = address(random, pnu, right);
+        let block = value_block(random, pnu, address[1], right);
+        if HEADER + addresses.len() + address.len() + values.len() + block.len() > BLOCK_MAX {
+            break;
+        }
+        addresses.extend(address);
+        values.extend(block);
+    }
+    if random.one_in(8) {
+        fill_up(random, &mut addresses, &mut values);
+    }
+    let count = (addresses.len() / 6) as u8;
+    [&[reference(random), 2, axis, count][..], &addresses, &values].concat()
+}
+
+/// One more address, whose values end near the last byte of a block.
+fn fill_up(random: &mut Random, addresses: &mut Vec<u8>, values: &mut Vec<u8>) {
+    let end: usize = random.pick(&[238, 239, 240, 240, 241]);
+    let Some(room) = end.checked_sub(HEADER + addresses.len() + values.len() + 8) else { return };
+    addresses.extend(address(random, 9901, false));
+    let (format, size) = if room % 2 == 0 { (0x42, 2) } else { (0x41, 1) };
+    values.extend([format, (room / size) as u8]);
+    values.extend((0..room).map(|_| random.byte()));
+}
+
+/// One of the known ones; where the block need not be right, seldom another.
+fn pnu(random: &mut Random, known: &[u16], right: bool) -> u16 {
+    match random.below(20) {
+        _ if right => random.pick(known),
+        0 => random.word(),
+        1 => random.pick(&UNKNOWN),
+        _ => random.pick(known),
+    }
+}
+
+fn address(random: &mut Random, pnu: u16, right: bool) -> [u8; 6] {
+    let attribute = match random.below(40) {
+        _ if right => 0x10,
+        0 => 0x20,
+        1 => 0x30,
+        2 => random.pick(&[0x00, 0x01, 0x11, 0x12, 0x18, 0x90, 0xFF]),
+        3 => random.byte(),
+        _ => 0x10,
+    };
+    let (elements, sub_index) = match Parameter::find(pnu).and_then(Parameter::array_length) {
+        None => one_element(random, right),
+        Some(length) => elements_of(random, length, right),
+    };
+    let [high, low] = pnu.to_be_bytes();
+    let [sub_high, sub_low] = sub_index.to_be_bytes();
+    [attribute, elements, high, low, sub_high, sub_low]
+}
+
+/// Elements and sub-index for a simple parameter.
+fn one_element(random: &mut Random, right: bool) -> (u8, u16) {
+    match random.below(24) {
+        4..=6 if right => (1, 0),
+        0..=3 => (0, 0),
+        4 => (2, 0),
+        5 => (random.pick(&[0, 1]), random.pick(&[1, 2, 256, 0xFFFF])),
+        6 => (random.byte(), random.word()),
+        _ => (1, 0),
+    }
+}
+
+/// Elements and sub-index for an array of this length: all, one, some, and around its end.
+fn elements_of(random: &mut Random, length: usize, right: bool) -> (u8, u16) {
+    let first = random.below(length);
+    let left = length - first;
+    let (elements, first) = match random.below(if right { 19 } else { 24 }) {
+        0..=6 => (length, 0),
+        7..=11 => (1, first),
+        12..=16 => (1 + random.below(left), first),
+        17 | 18 => (left, first),
+        19 => (left + 1, first),
+        20 => (0, random.pick(&[0, first, length, 0xFFFF])),
+        21 => (1, random.pick(&[length, length + 1, 256, 0x0100 + first, 0xFFFF])),
+        22 => (random.pick(&[255, 255, length, 2]), random.pick(&[0xFFFF, 0xFF01, 0x10000 - length, 0])),
+        _ => (random.below(256), random.below(0x10000)),
+    };
+    (elements as u8, first as u16)
+}
+
+/// A value block for an address, mostly of a right format and as many values as elements.
+fn value_block(random: &mut Random, pnu: u16, elements: u8, right: bool) -> Vec<u8> {
+    let parameter = Parameter::find(pnu);
+    let kind = parameter.map_or(Type::U16, Parameter::kind);
+    let format = match random.below(60) {
+        _ if right => random.pick(&[kind.size_code(), kind.type_code()]),
+        0 => random.pick(&[0, 1, 8, 0x40, 0x44, 0xFF]),
+        1..=6 => random.pick(&FORMATS),
+        _ => random.pick(&[kind.size_code(), kind.type_code()]),
+    };
+    let wanted = usize::from(elements.max(1)).min(40);
+    let count = match random.below(16) {
+        0 if !right => random.pick(&[0, 1, 2, wanted + 1, wanted - 1, wanted + 3]),
+        _ => wanted,
+    };
+    let size = twin::block::format_size(format).unwrap_or(1);
+    let limits = parameter.and_then(Parameter::limits).unwrap_or((0, 65535));
+    let mut block = vec![format, count as u8];
+    for _ in 0..count {
+        block.extend(&value(random, limits, right).to_be_bytes()[4 - size..]);
+    }
+    block
+}
+
+/// A value at, inside or just outside the limits.
+fn value(random: &mut Random, (low, high): (i32, i32), right: bool) -> i32 {
+    match random.below(28) {
+        4..=7 if right => random.within(low, high),
+        0 | 1 => low,
+        2 | 3 => high,
+        4 => low - 1,
+        5 => high + 1,
+        6 => random.draw() as i32,
+        7 => random.pick(&[0, -1, 0x7FFF, 0x8000, 0xFFFF, i32::MAX, i32::MIN, -high, high + 0x10000]),
+        _ => random.within(low, high),
+    }
+}
+
+/// Any bytes, often behind a header that leads somewhere.
+fn free(random: &mut Random) -> Vec<u8> {
+    let length = match random.below(6) {
+        0 => random.below(5),
+        1 => 240 + random.below(12),
+        2 => random.below(300),
+        _ => 4 + random.below(40),
+    };
+    let mut frame: Vec<u8> = (0..length).map(|_| random.byte()).collect();
+    let head = [random.pick(&[0x5E, 0x5F, 0x5F, 0x5D]), 0, 47, length.wrapping_sub(HEADER) as u8];
+    let known = random.below(6).min(4);
+    for (byte, told) in frame.iter_mut().zip(head).take(known) {
+        *byte = told;
+    }
+    frame
+}
+
+/// One or two of the things that go wrong with a frame.
+fn damage(random: &mut Random, frame: &mut Vec<u8>) {
+    for _ in 0..1 + random.below(2) {
+        damage_bytes(random, frame);
+    }
+    if random.percent(60) && frame.len() >= HEADER {
+        frame[3] = (frame.len() - HEADER) as u8;
+    }
+}
+
+fn damage_bytes(random: &mut Random, frame: &mut Vec<u8>) {
+    let length = frame.len();
+    let place = random.below(length.max(1));
+    let front = random.below(12);
+    match random.below(10) {
+        0 | 1 if length > 0 => frame[place] ^= 1 << random.below(8),
+        2 if length > 0 => frame[place] = random.byte(),
+        3 | 4 if front < length => {
+            frame[front] = random.pick(&[0, 1, 2, 3, 39, 40, 46, 47, 48, 0x5E, 0x5F, 0x81, 0x82, 0x90, 240, 241, 255])
+        }
+        5 => frame.truncate(place),
+        6 => frame.truncate(length.saturating_sub(1 + random.below(3))),
+        7 => frame.extend((0..1 + random.below(8)).map(|_| 0)),
+        8 => frame.insert(place, random.byte()),
+        9 if length > 0 => drop(frame.remove(place)),
+        _ if length > 3 => {
+            frame[3] = random.pick(&[frame[3].wrapping_add(1), frame[3].wrapping_sub(1), 0, 240, 241, 255])
+        }
+        _ => frame.push(random.byte()),
+    }
+}

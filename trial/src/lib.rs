@@ -1,0 +1,17 @@
+//! The proved library and its twin on the same calls.
+//!
+//! `face` calls the library, `meaning` says what its memory means to the twin, and the other modules make up calls and
+//! memory for both.
+
+#![deny(unsafe_code)]
+#![deny(warnings)]
+#![deny(missing_docs)]
+
+pub mod blocks;
+pub mod face;
+pub mod meaning;
+pub mod pair;
+pub mod parts;
+pub mod random;
+pub mod tally;
+pub mod words;

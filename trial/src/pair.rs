@@ -1,0 +1,249 @@
+//! The library and its twin, called alike, and every difference between them.
+
+use crate::face;
+use crate::meaning::{decode, encode, PART, STATION};
+use crate::words::Inputs;
+use std::fmt::{self, Display, Formatter};
+use twin::{Axis, Cycled, Framed, Station, AXES};
+
+/// Bytes before and after the lent station, and after the lent reply, that no call may touch.
+pub const GUARD: usize = 512;
+const GUARD_BYTE: u8 = 0xA5;
+/// Most reply memory that is lent.
+pub const REPLY_MAX: usize = 600;
+
+/// One call of the library.
+#[derive(Clone)]
+pub enum Call {
+    /// A fresh station.
+    Fresh,
+    /// A cycle of this axis.
+    Cycle(u32, Inputs),
+    /// A frame of this farm, and how much reply memory it is lent.
+    Frame(u32, Vec<u8>, usize),
+}
+
+impl Call {
+    /// The index of the owner's part, if the call has one.
+    pub fn owner(&self) -> Option<usize> {
+        let (Call::Cycle(number, _) | Call::Frame(number, ..)) = self else { return None };
+        (1..=AXES).find(|owner| *owner as u32 == *number).map(|owner| owner - 1)
+    }
+}
+
+impl Display for Call {
+    fn fmt(&self, f: &mut Formatter) -> fmt::Result {
+        match self {
+            Call::Fresh => write!(f, "fresh"),
+            Call::Cycle(axis, i) => write!(
+                f,
+                "cycle axis {axis:X} flags {:X} STW1 {:04X} NSOLL_A {:04X} NIST_A {:04X} fault {:04X}",
+                i.flags, i.stw1, i.nsoll, i.nist, i.fault
+            ),
+            Call::Frame(farm, frame, reply) => {
+                write!(f, "frame farm {farm:X} reply memory {reply} frame {}", hex(frame))
+            }
+        }
+    }
+}
+
+/// What a call answers.
+#[derive(Clone, Copy, Debug, PartialEq, Eq)]
+pub enum Answer {
+    /// 0 or a refusal number.
+    Fresh(u8),
+    /// A cycle's answer.
+    Cycle(Cycled),
+    /// A frame's answer.
+    Frame(Framed),
+}
+
+impl Answer {
+    /// 0 or the refusal number.
+    pub fn number(&self) -> u8 {
+        match self {
+            Answer::Fresh(number) => *number,
+            Answer::Cycle(cycled) => cycled.number,
+            Answer::Frame(framed) => framed.number,
+        }
+    }
+}
+
+/// Two that should be the same, in words.
+#[derive(Debug)]
+pub struct Difference {
+    /// What differs.
+    pub what: String,
+    /// Ours, in hex or as an answer.
+    pub ours: String,
+    /// The twin's.
+    pub twin: String,
+}
+
+fn differ(what: impl Into<String>, ours: impl Into<String>, twin: impl Into<String>) -> Difference {
+    Difference { what: what.into(), ours: ours.into(), twin: twin.into() }
+}
+
+/// Both stations.
+pub struct Pair {
+    memory: Vec<u8>,
+    before: Vec<u8>,
+    twin: Station,
+    ours_reply: Vec<u8>,
+    twin_reply: Vec<u8>,
+}
+
+impl Pair {
+    /// Both fresh; our memory held something else before.
+    pub fn fresh() -> Result<Pair, Difference> {
+        if face::size() != STATION {
+            return Err(differ("bytes of a station", face::size().to_string(), STATION.to_string()));
+        }
+        let memory = vec![GUARD_BYTE; STATION + 2 * GUARD];
+        let reply = vec![0; REPLY_MAX + GUARD];
+        let mut pair = Pair {
+            before: memory.clone(),
+            memory,
+            twin: Station::fresh(),
+            ours_reply: reply.clone(),
+            twin_reply: reply,
+        };
+        pair.call(&Call::Fresh, STATION, 0).map(|_| pair)
+    }
+
+    /// The twin's part of this index.
+    pub fn axis(&self, index: usize) -> &Axis {
+        &self.twin.axes[index]
+    }
+
+    /// Our part of this index.
+    pub fn part(&self, index: usize) -> &[u8; PART] {
+        part_of(&self.memory, index)
+    }
+
+    /// Our part before the last call.
+    pub fn part_before(&self, index: usize) -> &[u8; PART] {
+        part_of(&self.before, index)
+    }
+
+    /// Puts these bytes in the place of our part, and what they mean, if anything, in that of the twin's.
+    pub fn put(&mut self, index: usize, part: &[u8; PART]) {
+        let start = GUARD + index * PART;
+        self.memory[start..start + PART].copy_from_slice(part);
+        self.before[start..start + PART].copy_from_slice(part);
+        if let Ok(axis) = decode(part) {
+            self.twin.axes[index] = axis;
+        }
+    }
+
+    /// Makes the call of both, our station being lent as so many bytes, and compares answer, reply and memory.
+    pub fn call(&mut self, call: &Call, bytes: usize, pattern: u8) -> Result<Answer, Difference> {
+        let twin = self.call_twin(call, bytes, pattern);
+        let ours = self.call_ours(call, bytes, pattern);
+        if ours != twin {
+            return Err(differ("answer", format!("{ours:?}"), format!("{twin:?}")));
+        }
+        if self.ours_reply != self.twin_reply {
+            return Err(differ("reply memory", hex(&self.ours_reply), hex(&self.twin_reply)));
+        }
+        match call {
+            Call::Fresh if ours.number() == 0 => self.compare_all()?,
+            _ => self.compare_part(call.owner(), ours.number())?,
+        }
+        self.compare_rest(call, ours.number())?;
+        Ok(ours)
+    }
+
+    fn call_ours(&mut self, call: &Call, bytes: usize, pattern: u8) -> Answer {
+        let station = &mut self.memory[GUARD..GUARD + bytes];
+        match call {
+            Call::Fresh => Answer::Fresh(face::fresh(station)),
+            Call::Cycle(axis, i) => {
+                let face::Cycled { rpm, status, state, number } =
+                    face::cycle(station, *axis, i.flags, i.stw1, i.nsoll, i.nist, i.fault);
+                Answer::Cycle(Cycled { rpm, status, state, number })
+            }
+            Call::Frame(farm, frame, reply) => {
+                self.ours_reply.fill(pattern);
+                let face::Framed { length, stored, number } =
+                    face::frame(station, *farm, frame, &mut self.ours_reply[..*reply]);
+                Answer::Frame(Framed { length, stored, number })
+            }
+        }
+    }
+
+    /// The twin knows no bytes: where ours are too many or too few, or mean nothing, number 1 still comes first, then 2.
+    fn call_twin(&mut self, call: &Call, bytes: usize, pattern: u8) -> Answer {
+        let unmeant = call.owner().is_some_and(|owner| decode(self.part(owner)).is_err());
+        let second = bytes != STATION || unmeant;
+        match call {
+            Call::Fresh if second => Answer::Fresh(2),
+            Call::Fresh => {
+                self.twin = Station::fresh();
+                Answer::Fresh(0)
+            }
+            Call::Cycle(..) if second && call.owner().is_some() => {
+                Answer::Cycle(Cycled { rpm: 0, status: 0, state: 0, number: 2 })
+            }
+            Call::Cycle(axis, i) => Answer::Cycle(self.twin.cycle(*axis, i.flags, i.stw1, i.nsoll, i.nist, i.fault)),
+            Call::Frame(farm, frame, reply) => {
+                self.twin_reply.fill(pattern);
+                if second && call.owner().is_some() {
+                    return Answer::Frame(Framed { length: 0, stored: 0, number: 2 });
+                }
+                Answer::Frame(self.twin.frame(*farm, frame, &mut self.twin_reply[..*reply]))
+            }
+        }
+    }
+
+    /// The owner's part by its meaning; after a refusal it is as it was.
+    fn compare_part(&self, owner: Option<usize>, number: u8) -> Result<(), Difference> {
+        let Some(owner) = owner else { return Ok(()) };
+        if number != 0 {
+            return same_bytes("the owner's part after a refusal", self.part(owner), self.part_before(owner));
+        }
+        self.compare_meaning(owner)
+    }
+
+    fn compare_meaning(&self, index: usize) -> Result<(), Difference> {
+        let twin = &self.twin.axes[index];
+        if decode(self.part(index)).as_ref() == Ok(twin) {
+            return Ok(());
+        }
+        Err(differ(format!("part {}", index + 1), hex(self.part(index)), hex(&encode(twin))))
+    }
+
+    /// All parts by their meaning.
+    pub fn compare_all(&self) -> Result<(), Difference> {
+        (0..AXES).try_for_each(|index| self.compare_meaning(index))
+    }
+
+    /// All but what the call may change is as it was; then it all becomes what was.
+    fn compare_rest(&mut self, call: &Call, number: u8) -> Result<(), Difference> {
+        let changed = match (call, call.owner()) {
+            (Call::Fresh, _) if number == 0 => GUARD..GUARD + STATION,
+            (_, Some(owner)) => GUARD + owner * PART..GUARD + (owner + 1) * PART,
+            _ => 0..0,
+        };
+        same_bytes("memory before the part", &self.memory[..changed.start], &self.before[..changed.start])?;
+        same_bytes("memory after the part", &self.memory[changed.end..], &self.before[changed.end..])?;
+        self.before[changed.clone()].copy_from_slice(&self.memory[changed]);
+        Ok(())
+    }
+}
+
+fn part_of(memory: &[u8], index: usize) -> &[u8; PART] {
+    memory[GUARD + index * PART..].first_chunk().expect("16 parts and a guard")
+}
+
+fn same_bytes(what: &str, ours: &[u8], was: &[u8]) -> Result<(), Difference> {
+    match ours.iter().zip(was).position(|(ours, was)| ours != was) {
+        _ if ours == was => Ok(()),
+        at => Err(differ(format!("{what}, byte {at:?}"), hex(ours), hex(was))),
+    }
+}
+
+/// Bytes in hex.
+pub fn hex(bytes: &[u8]) -> String {
+    bytes.iter().map(|byte| format!("{byte:02X}")).collect()
+}

@@ -1,0 +1,149 @@
+//! Parts of the station's memory that no run of calls need have left: at their limits, over them, and with any response.
+
+use crate::meaning::{encode, place, Field, PART};
+use crate::random::Random;
+use twin::{Axis, State, Waiting, BLOCK_MAX, CODES, SITUATIONS};
+
+/// The bytes of a part of this axis, mostly well-formed.
+pub fn part(random: &mut Random, axis: u8) -> [u8; PART] {
+    let mut planted = drive(random);
+    limits(random, &mut planted);
+    if random.percent(65) {
+        planted.waiting = Some(waiting(random, axis));
+    }
+    let mut part = encode(&planted);
+    match random.below(40) {
+        0 => part[place(Field::State)] = random.pick(&[0, 5, 6, 50, 53, 255]),
+        1 => part[place(Field::Length)] = random.pick(&[0, 1, 3, 4, 239, 240, 241, 255]),
+        2 => part[random.below(4)] = random.byte(),
+        3 => part[place(Field::P965) + random.below(2)] = random.pick(&[3, 4, 40, 41, 42]),
+        _ => {}
+    }
+    part
+}
+
+/// Everything the cycle leaves, as it might be after a long run.
+fn drive(random: &mut Random) -> Axis {
+    Axis {
+        state: random.pick(&State::ALL),
+        last_word: random.word(),
+        last_setpoint: random.word() as i16,
+        effective: random.word() as i16,
+        status: random.word(),
+        actual: random.word() as i16,
+        fault_counter: random.pick(&[0, 65534, 65535, 65535]),
+        situations: situations(random),
+        ..Axis::fresh()
+    }
+}
+
+fn situations(random: &mut Random) -> [[u16; CODES]; SITUATIONS] {
+    let mut situations = [[0; CODES]; SITUATIONS];
+    for situation in &mut situations {
+        let standing = random.pick(&[0, 0, 1, 2, 7, 8]);
+        for (i, code) in situation.iter_mut().enumerate().take(standing) {
+            *code = 10 * (i as u16 + 1) + random.below(9) as u16 + 1;
+        }
+        if random.one_in(40) {
+            situation[random.below(CODES)] = random.pick(&[0, situation[0], 9]);
+        }
+    }
+    situations
+}
+
+/// The writable elements, at and inside their limits and seldom one over them.
+fn limits(random: &mut Random, axis: &mut Axis) {
+    axis.p9900 = random.word();
+    axis.p9901 = std::array::from_fn(|_| random.word());
+    axis.p10111 = element(random, 1, 60000) as u16;
+    axis.p30001 = std::array::from_fn(|_| element(random, 0, 3000) as u16);
+    axis.p30002 = element(random, 0, 16384) as u16;
+    axis.p30003 = element(random, 0, 32767) as u16;
+    axis.p30004 = std::array::from_fn(|_| element(random, -100_000, 100_000));
+}
+
+fn element(random: &mut Random, low: i32, high: i32) -> i32 {
+    match random.below(200) {
+        0 => low - 1,
+        1 => high + 1,
+        2..=40 => low,
+        41..=80 => high,
+        _ => random.within(low, high),
+    }
+}
+
+/// A response that waits: readable and of this axis but for now and then.
+fn waiting(random: &mut Random, axis: u8) -> Waiting {
+    let mut block = response(random, axis);
+    if random.one_in(4) {
+        damage(random, &mut block);
+    }
+    if random.one_in(10) {
+        block[3] = random.pick(&[0, 39, 40]);
+    }
+    block.truncate(BLOCK_MAX);
+    let length = if random.one_in(20) { random.below(256) } else { block.len() };
+    let mut bytes = [0; BLOCK_MAX];
+    bytes[..block.len()].copy_from_slice(&block);
+    if random.one_in(30) {
+        bytes[random.below(BLOCK_MAX)] ^= 1 << random.below(8);
+    }
+    Waiting { bytes, length }
+}
+
+/// Every layout of a response block that document 01 has, of any length that fits.
+pub fn response(random: &mut Random, axis: u8) -> Vec<u8> {
+    let identifier = random.pick(&[0x01, 0x01, 0x02, 0x81, 0x81, 0x82]);
+    let wish = random.pick(&[1, 1, 2, 5, 20, 38, 39]);
+    let mut items: Vec<u8> = Vec::new();
+    let mut count = 0;
+    while count < wish {
+        let fails = identifier > 0x80 && (count == 0 || random.one_in(3));
+        let item = item(random, identifier, fails);
+        if 4 + items.len() + item.len() > BLOCK_MAX {
+            break;
+        }
+        items.extend(item);
+        count += 1;
+    }
+    [&[1 + random.below(255) as u8, identifier, axis, count][..], &items].concat()
+}
+
+fn item(random: &mut Random, identifier: u8, fails: bool) -> Vec<u8> {
+    match identifier {
+        0x02 => Vec::new(),
+        _ if fails => vec![0x44, 1, random.pick(&[0, 0, 255]), random.byte()],
+        0x82 => vec![0x40, 0],
+        _ => {
+            let (format, size) = random.pick(&[(0x41, 1), (0x42, 2), (0x43, 4)]);
+            let values = if random.one_in(200) { 0 } else { random.pick(&[1, 1, 2, 3, 8, 33]) };
+            let mut item = vec![format, values as u8];
+            item.extend((0..values * size).map(|_| random.byte()));
+            item
+        }
+    }
+}
+
+fn damage(random: &mut Random, block: &mut Vec<u8>) {
+    let place = random.below(block.len());
+    match random.below(8) {
+        0 => block[place] = random.byte(),
+        1 => block[random.below(4)] = random.pick(&[0, 1, 2, 3, 39, 40, 0x81, 0x82, 0x83]),
+        2 => block.truncate(place.max(4)),
+        3 => block.push(random.pick(&[0, 0x40])),
+        4 => block[1] ^= random.pick(&[0x80, 3]),
+        5 => block[3] = block[3].wrapping_add(random.pick(&[1, 255])),
+        6 => block[2] = random.byte(),
+        _ => {
+            let at = block.len().saturating_sub(4).max(4).min(block.len());
+            block.truncate(at);
+            block.extend(random.pick(&[
+                [0x44, 1, 0, 2],
+                [0x44, 2, 0, 2],
+                [0x40, 0, 0x40, 0],
+                [0x40, 1, 0, 0],
+                [0x41, 0, 0x42, 0],
+            ]));
+        }
+    }
+}

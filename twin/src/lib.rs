@@ -1,0 +1,25 @@
+//! An independent twin of the station of document 01 (`01-scope.md`), read with `READINGS.md`.
+//!
+//! It exists to be compared with another implementation, so it is plain: every rule of the paper stands in one
+//! small function, and every field is public for a harness to set and compare.
+
+#![forbid(unsafe_code)]
+#![deny(warnings)]
+#![deny(missing_docs)]
+
+pub mod axis;
+pub mod block;
+pub mod cycle;
+pub mod frame;
+pub mod journal;
+pub mod parameter;
+
+#[cfg(test)]
+mod tests;
+
+pub use axis::{well_formed, Axis, State, Station, Waiting, AXES, BLOCK_MAX, CODES, SITUATIONS};
+pub use block::{parse_request, parse_response, Address, Item, Request, RequestKind, Response, ResponseKind, Values};
+pub use cycle::Cycled;
+pub use frame::{Framed, REPLY_MIN};
+pub use journal::replay;
+pub use parameter::{Parameter, Type};

@@ -1,0 +1,167 @@
+use super::{hex, request, worked_write, write_frame};
+use crate::replay;
+use std::io::{self, Read};
+
+fn cycle(axis: u8, flags: u8, stw1: u16, nsoll: i16, nist: i16, fault: u16) -> Vec<u8> {
+    let mut record = vec![1, axis, flags];
+    for word in [stw1, nsoll as u16, nist as u16, fault] {
+        record.extend(word.to_be_bytes());
+    }
+    record
+}
+
+fn frame(farm: u8, frame: &[u8]) -> Vec<u8> {
+    let mut record = vec![2, farm, frame.len() as u8];
+    record.extend_from_slice(frame);
+    record.resize(1 + 246, 0);
+    record
+}
+
+fn run(journal: &[u8]) -> String {
+    let mut output = Vec::new();
+    replay(journal, &mut output).unwrap();
+    String::from_utf8(output).unwrap()
+}
+
+#[test]
+fn the_whole_listing() {
+    let journal = [
+        cycle(1, 0, 0x047E, 0, 0, 0),
+        cycle(1, 0, 0x047F, 0, 0, 0),
+        cycle(1, 0, 0x047F, 0x2000, 0, 0),
+        cycle(1, 0, 0x047D, 0, 0, 0),
+        frame(1, &worked_write()),
+        frame(1, &hex("5E 00 2F F0")),
+        frame(2, &worked_write()),
+    ]
+    .concat();
+    assert_eq!(journal.len(), 4 * 11 + 3 * 247);
+    let expected = "\
+c 1 S2 0331 0
+c 1 S3 0333 0
+c 1 S4 0237 750
+c 1 S1 0360 0
+f 1 1 5F002F10
+f 1 0 5E002F080782010144010002
+f 2 0 DF80B600
+";
+    assert_eq!(run(&journal), expected);
+}
+
+#[test]
+fn the_listing_read_a_byte_at_a_time() {
+    struct Slow<'a>(&'a [u8], bool);
+    impl Read for Slow<'_> {
+        fn read(&mut self, buffer: &mut [u8]) -> io::Result<usize> {
+            self.1 = !self.1;
+            if self.1 {
+                return Err(io::ErrorKind::Interrupted.into());
+            }
+            let length = buffer.len().min(1);
+            self.0.read(&mut buffer[..length])
+        }
+    }
+    let journal = [cycle(1, 0, 0x047E, 0, 0, 0), frame(1, &worked_write())].concat();
+    let mut output = Vec::new();
+    replay(Slow(&journal, false), &mut output).unwrap();
+    assert_eq!(output, b"c 1 S2 0331 0\nf 1 1 5F002F10\n");
+}
+
+#[test]
+fn an_empty_journal_writes_nothing() {
+    assert_eq!(run(&[]), "");
+}
+
+#[test]
+fn refused_cycles_and_empty_replies() {
+    assert_eq!(run(&cycle(0, 0, 0, 0, 0, 0)), "x 1\n");
+    assert_eq!(run(&cycle(17, 9, 0, 0, 0, 0)), "x 1\n");
+    assert_eq!(run(&cycle(16, 4, 0, 0, 0, 0)), "x 12\n");
+    assert_eq!(run(&frame(17, &worked_write())), "f 17 0 -\n");
+    assert_eq!(run(&frame(0, &[])), "f 0 0 -\n");
+    assert_eq!(run(&frame(1, &[])), "f 1 0 -\n");
+    assert_eq!(run(&frame(1, &hex("5D 00 2F 00"))), "f 1 0 -\n");
+}
+
+#[test]
+fn bad_records_end_the_run() {
+    let good = cycle(2, 0, 0, 0, 0, 0);
+    let line = "c 2 S1 0340 0\n";
+    for kind in (0..=255u8).filter(|kind| *kind != 1 && *kind != 2) {
+        assert_eq!(run(&[good.clone(), vec![kind], good.clone()].concat()), format!("{line}bad\n"));
+    }
+    for length in 1..11 {
+        assert_eq!(run(&[&good[..], &good[..length]].concat()), format!("{line}bad\n"));
+    }
+    let long = frame(1, &worked_write());
+    for length in 1..247 {
+        assert_eq!(run(&long[..length]), "bad\n");
+    }
+}
+
+#[test]
+fn bad_frame_bodies() {
+    let good = cycle(2, 0, 0, 0, 0, 0);
+    for farm in [0, 1, 17, 255] {
+        let mut record = frame(farm, &worked_write());
+        record[246] = 1;
+        assert_eq!(run(&[record, good.clone()].concat()), "bad\n", "a byte past the frame");
+        let mut record = frame(farm, &worked_write());
+        record[2] = 19;
+        assert_eq!(run(&record), "bad\n", "the byte just past the frame");
+        for length in 245..=255 {
+            let mut record = frame(farm, &[]);
+            record[2] = length;
+            assert_eq!(run(&[record, good.clone()].concat()), "bad\n");
+        }
+    }
+    assert_eq!(run(&frame(1, &[0; 244])), "f 1 0 -\n", "244 bytes may be a frame");
+}
+
+#[test]
+fn all_states_and_negative_speeds() {
+    let journal = [
+        cycle(3, 0, 0x047E, 0, 0, 0),
+        cycle(3, 0, 0x047F, 0, 0, 0),
+        cycle(3, 0, 0x047F, -32768, 0, 0),
+        cycle(3, 0, 0x047E, 0, 0, 0),
+        cycle(3, 0, 0x047A, 0, -16384, 0),
+        cycle(3, 3, 0x0000, 0, 0, 0xFFFF),
+    ]
+    .concat();
+    let expected = "\
+c 3 S2 0331 0
+c 3 S3 0333 0
+c 3 S4 0237 -3000
+c 3 S51 0333 0
+c 3 S52 0613 0
+c 3 S1 03D8 0
+";
+    assert_eq!(run(&journal), expected);
+}
+
+#[test]
+fn a_full_reply() {
+    let mut addresses = vec!["10 20 03 B3 00 00"; 3];
+    addresses.push("10 12 03 B3 00 00");
+    let journal = [frame(1, &write_frame(&request(1, 1, &addresses))), frame(1, &hex("5E 00 2F F0"))].concat();
+    let output = run(&journal);
+    let lines: Vec<&str> = output.lines().collect();
+    assert_eq!(lines[0], "f 1 0 5F002F1C");
+    assert!(lines[1].starts_with("f 1 0 5E002FF0010101044220"));
+    assert_eq!(lines[1].len(), "f 1 0 ".len() + 2 * 244);
+}
+
+#[test]
+fn trouble_with_the_input_is_an_error_after_the_lines() {
+    struct Broken;
+    impl Read for Broken {
+        fn read(&mut self, _: &mut [u8]) -> io::Result<usize> {
+            Err(io::Error::other("broken"))
+        }
+    }
+    let journal = cycle(2, 0, 0, 0, 0, 0);
+    let mut output = Vec::new();
+    assert!(replay(journal.chain(Broken), &mut output).is_err());
+    assert_eq!(output, b"c 2 S1 0340 0\n");
+}

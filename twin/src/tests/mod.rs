@@ -1,0 +1,84 @@
+//! Worked cases of document 01 and of the readings.
+
+mod addresses;
+mod blocks;
+mod cycles;
+mod frames;
+mod journal;
+mod parts;
+mod random;
+
+use crate::{Framed, Station};
+
+/// A reply memory that shows which bytes were touched.
+pub const FILL: u8 = 0xA5;
+
+/// Bytes from hex text, spaces ignored.
+pub fn hex(text: &str) -> Vec<u8> {
+    let digits: Vec<u8> = text.chars().filter_map(|digit| digit.to_digit(16)).map(|digit| digit as u8).collect();
+    assert_eq!(digits.len() % 2, 0, "{text}");
+    digits.chunks(2).map(|pair| pair[0] << 4 | pair[1]).collect()
+}
+
+/// A write frame around a block of at most 240 bytes.
+pub fn write_frame(block: &[u8]) -> Vec<u8> {
+    let mut frame = vec![0x5F, 0x00, 0x2F, u8::try_from(block.len()).unwrap()];
+    frame.extend_from_slice(block);
+    frame
+}
+
+/// A request block of these addresses, each written in hex.
+pub fn request(reference: u8, axis: u8, addresses: &[&str]) -> Vec<u8> {
+    let mut block = vec![reference, 0x01, axis, addresses.len() as u8];
+    addresses.iter().for_each(|address| block.extend(hex(address)));
+    block
+}
+
+/// A change block of addresses and value blocks, each written in hex.
+pub fn change(reference: u8, axis: u8, parameters: &[(&str, &str)]) -> Vec<u8> {
+    let mut block = vec![reference, 0x02, axis, parameters.len() as u8];
+    parameters.iter().for_each(|(address, _)| block.extend(hex(address)));
+    parameters.iter().for_each(|(_, values)| block.extend(hex(values)));
+    block
+}
+
+/// Runs a frame, checks that nothing past the reply is touched, and gives the reply.
+pub fn send(station: &mut Station, farm: u32, frame: &[u8]) -> (Framed, Vec<u8>) {
+    let mut memory = [FILL; 260];
+    let framed = station.frame(farm, frame, &mut memory);
+    let (reply, rest) = memory.split_at(framed.length.into());
+    assert!(rest.iter().all(|byte| *byte == FILL));
+    (framed, reply.to_vec())
+}
+
+/// Runs a frame that must be refused with this number and reply, and changes nothing.
+pub fn assert_refused(station: &mut Station, farm: u32, frame: &[u8], number: u8, reply: &str) {
+    let before = station.clone();
+    let (framed, bytes) = send(station, farm, frame);
+    assert_eq!(bytes, hex(reply), "reply to {frame:02X?}");
+    assert_eq!(framed, Framed { length: bytes.len() as u16, stored: 0, number });
+    assert!(*station == before);
+}
+
+/// Writes a block that must be accepted, fetches the response, and gives the stored count and the response.
+pub fn exchange(station: &mut Station, farm: u32, block: &[u8]) -> (u16, Vec<u8>) {
+    let (framed, reply) = send(station, farm, &write_frame(block));
+    assert_eq!(reply, [0x5F, 0x00, 0x2F, block.len() as u8]);
+    assert_eq!((framed.length, framed.number), (4, 0));
+    (framed.stored, fetch(station, farm))
+}
+
+/// Fetches a response with F0.
+pub fn fetch(station: &mut Station, farm: u32) -> Vec<u8> {
+    let (framed, reply) = send(station, farm, &hex("5E 00 2F F0"));
+    assert_eq!((framed.stored, framed.number), (0, 0));
+    assert_eq!(reply[..3], [0x5E, 0x00, 0x2F]);
+    assert_eq!(usize::from(reply[3]), reply.len() - 4);
+    assert_eq!(station.axes[farm as usize - 1].waiting, None);
+    reply[4..].to_vec()
+}
+
+/// The worked write frame of marks 1000 and 3001.
+pub fn worked_write() -> Vec<u8> {
+    hex("5F 00 2F 10 07 02 01 01 10 02 75 31 00 00 42 02 03 E8 0B B9")
+}

@@ -1,0 +1,122 @@
+//! Random runs: the station stays well-formed, refusals change nothing, other parts are untouched.
+
+use super::FILL;
+use crate::{parse_request, parse_response, well_formed, ResponseKind, Station};
+
+/// A small generator of its own (xorshift64*).
+struct Random(u64);
+
+impl Random {
+    fn next(&mut self) -> u64 {
+        self.0 ^= self.0 >> 12;
+        self.0 ^= self.0 << 25;
+        self.0 ^= self.0 >> 27;
+        self.0.wrapping_mul(0x2545_F491_4F6C_DD1D) >> 16
+    }
+
+    fn below(&mut self, limit: u64) -> u64 {
+        self.next() % limit
+    }
+
+    fn pick<T: Copy>(&mut self, values: &[T]) -> T {
+        values[self.below(values.len() as u64) as usize]
+    }
+
+    fn one_in(&mut self, times: u64) -> bool {
+        self.below(times) == 0
+    }
+}
+
+const PNUS: [u16; 17] =
+    [930, 944, 947, 965, 9900, 9901, 10100, 10101, 10102, 10103, 10111, 30001, 30002, 30003, 30004, 0, 931];
+
+fn random_block(random: &mut Random, axis: u8) -> Vec<u8> {
+    let change = random.one_in(2);
+    let most = if random.one_in(4) { 40 } else { 5 };
+    let count = 1 + random.below(most) as u8;
+    let mut block = vec![1 + random.below(255) as u8, 1 + u8::from(change), axis, count];
+    for _ in 0..count {
+        block.push(if random.one_in(10) { random.next() as u8 } else { 0x10 });
+        block.push(random.pick(&[0, 1, 1, 1, 2, 4, 8, 32]));
+        block.extend(random.pick(&PNUS).to_be_bytes());
+        block.extend([0, random.pick(&[0, 0, 0, 1, 2, 31])]);
+    }
+    for _ in 0..if change { count } else { 0 } {
+        let (format, size) = random.pick(&[(0x41, 1), (0x42, 2), (6, 2), (0x43, 4), (4, 4)]);
+        let values = random.pick(&[0, 1, 1, 1, 2, 4]);
+        block.extend([format, values]);
+        for _ in 0..values {
+            let value = random.pick(&[0, 1, 3000, 3001, 16384, 60000, 65535, 100_000, 100_001, u32::MAX]);
+            block.extend(&value.to_be_bytes()[4 - size..]);
+        }
+    }
+    block
+}
+
+fn random_frame(random: &mut Random, axis: u8) -> Vec<u8> {
+    if random.one_in(2) {
+        return vec![0x5E, 0, 47, random.pick(&[0xF0, 0xF0, 0xF0, 8, 0xFF])];
+    }
+    let own = if random.one_in(20) { random.next() as u8 } else { axis };
+    let block = random_block(random, own);
+    let mut frame = vec![0x5F, 0, 47, block.len() as u8];
+    frame.extend(block);
+    if random.one_in(10) {
+        let at = random.below(frame.len() as u64) as usize;
+        frame[at] = random.next() as u8;
+    }
+    frame
+}
+
+#[test]
+fn random_frames() {
+    let mut random = Random(0x1234_5678_9ABC_DEF1);
+    let mut station = Station::fresh();
+    let mut seen = [0u32; 13];
+    for _ in 0..60_000 {
+        let farm = 1 + random.below(16) as u32;
+        let index = farm as usize - 1;
+        let frame = random_frame(&mut random, farm as u8);
+        let before = station.clone();
+        let mut reply = [FILL; 250];
+        let framed = station.frame(farm, &frame, &mut reply);
+        seen[usize::from(framed.number)] += 1;
+        assert!(reply[framed.length.into()..].iter().all(|byte| *byte == FILL));
+        assert!(well_formed(&station.axes[index], farm as u8));
+        assert!((0..16).all(|other| other == index || station.axes[other] == before.axes[other]));
+        if framed.number != 0 {
+            assert!(station == before && framed.stored == 0);
+            assert!(framed.number > 4 || framed.length == 0);
+        } else if frame[0] == 0x5F {
+            let request = parse_request(&frame[4..]).unwrap();
+            let waiting = station.axes[index].waiting.as_ref().unwrap();
+            let response = parse_response(waiting.block().unwrap()).unwrap();
+            assert_eq!((request.reference, request.count), (response.reference, response.count));
+            let items = if response.kind == ResponseKind::Changed { 0 } else { usize::from(request.count) };
+            assert_eq!(response.items().count(), items);
+        }
+    }
+    assert!([0, 7, 8, 9, 10, 11].iter().all(|number| seen[*number] > 20), "{seen:?}");
+}
+
+#[test]
+fn random_cycles() {
+    let mut random = Random(0x0FED_CBA9_8765_4321);
+    let mut station = Station::fresh();
+    let mut states = [0u32; 53];
+    for _ in 0..200_000 {
+        let axis = 1 + random.below(16) as u32;
+        let word =
+            random.pick(&[0x047E, 0x047F, 0x047F, 0x047F, 0x04FF, 0x0477, 0x047B]) ^ (1 << random.below(30)) as u16;
+        let fault = if random.one_in(30) { random.below(12) as u16 } else { 0 };
+        let flags = random.below(4) as u32;
+        let cycled = station.cycle(axis, flags, word, random.next() as i16, random.next() as i16, fault);
+        let part = &station.axes[axis as usize - 1];
+        assert_eq!((cycled.number, cycled.status, cycled.state), (0, part.status, part.state.code()));
+        assert_eq!(cycled.status & 0xF800, 0);
+        assert!(cycled.rpm == 0 || cycled.state == 4);
+        assert!(well_formed(part, axis as u8));
+        states[usize::from(cycled.state)] += 1;
+    }
+    assert!([1, 2, 3, 4, 51, 52].iter().all(|state| states[*state] > 100), "{states:?}");
+}
