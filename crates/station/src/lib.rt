@@ -30,7 +30,7 @@ pub struct Framed {
 const FARMS: usize = 16;
 
 // Bytes of a station's memory.
-const STATION: usize = FARMS * part::SIZE;
+pub const STATION: usize = FARMS * part::SIZE;
 
 #[no_mangle]
 pub extern "C" fn llinkhiro_size() -> usize

@@ -1,0 +1,65 @@
+-- What is known of bytes by whether they are a record.
+use mathlib.Core.Path.{_≡_, refl, sym, _∙_, ap}
+use mathlib.Core.Bool.{Bool, true, false, _&&_, and-eq-true-iff}
+use mathlib.Core.List.{List, [], _∷_, _++_}
+use Prim.Native.Nat.{ℕ, zero, suc, _+_, _≤_, _<_}
+use native.Mathlib.Omega.{arith}
+use native.Mathlib.Numerals.{add-one}
+use native.Mathlib.Nat.{zero-add}
+use lib.Dec.{eqb, leb}
+use lib.ListN.{length, getD, drop}
+use lib.Seq.{drop-cons}
+use borrow.Author.Tests.{eqb-true, leb-true, eq-eqb, ne-eqb}
+use Rattle.codes.specs.Number.{put}
+use Rattle.codes.proofs.Put.{put-fits}
+use Rattle.drive.specs.Faults.{zeros}
+use Rattle.station.specs.Calls.{kinds}
+use Rattle.station.specs.Isolation.{after}
+use Rattle.journal.specs.Line.{cycleRecord, frameRecord, cycleCall, frameLength, frameCall, isCycle, isFrame, isRecord, written, badLine, recordLine, recordAfter}
+
+-- bytes tested for 0, from a place on
+pub clear-past : (s : List ℕ) (i : ℕ) → length s ≤ i → zeros (drop i s) ≡ true
+clear-past [] zero h = refl
+clear-past [] (suc i) h = refl
+clear-past (x ∷ s) zero h = absurd (omega arith)
+clear-past (x ∷ s) (suc i) h = clear-past s i (omega arith)
+
+pub clear-next : (s : List ℕ) (i : ℕ) → i < length s → getD s i 0 ≡ 0 → zeros (drop i s) ≡ zeros (drop (i + 1) s)
+clear-next s i h e = rw (drop-cons s i 0 h, eq-eqb (getD s i 0) 0 e, add-one i)
+
+pub clear-not : (s : List ℕ) (i : ℕ) → i < length s → (getD s i 0 ≡ 0 → ⊥) → zeros (drop i s) ≡ false
+clear-not s i h n = rw (drop-cons s i 0 h, ne-eqb (getD s i 0) 0 n)
+
+pub cycle-length : (r : List ℕ) → isCycle r ≡ true → length r ≡ cycleRecord
+cycle-length r h = eqb-true _ _ (and-eq-true-iff (eqb (length r) cycleRecord) (eqb (getD r 0 0) 1) .0 h .0)
+
+pub frame-lengths : (r : List ℕ) → isFrame r ≡ true → (length r ≡ frameRecord) × (frameLength r ≤ 244)
+frame-lengths r h =
+    let clear = zeros (drop (3 + frameLength r) r) in
+    let fits = leb (frameLength r) 244 in
+    let whole = and-eq-true-iff (eqb (length r) frameRecord) (eqb (getD r 0 0) 2 && (fits && clear)) .0 h in
+    let kind = and-eq-true-iff (eqb (getD r 0 0) 2) (fits && clear) .0 (whole .1) in
+    (eqb-true _ _ (whole .0), leb-true _ _ (and-eq-true-iff fits clear .0 (kind .1) .0))
+
+-- what a play promises, by what the bytes are
+module _ (r s : List ℕ) where
+  abbrev pub Comes : List ℕ → List ℕ → Bool → Type 0
+  Comes line after good = (recordLine r s ≡ line) × (recordAfter r s ≡ after) × (isRecord r ≡ good)
+
+  pub comes-cycle : isCycle r ≡ true → Comes (written r (cycleCall r) s) (after kinds (cycleCall r) s) true
+  unfolding recordLine recordAfter isRecord
+  comes-cycle h = (rw h, rw h, rw h)
+
+  pub comes-frame : isCycle r ≡ false → isFrame r ≡ true → Comes (written r (frameCall r) s) (after kinds (frameCall r) s) true
+  unfolding recordLine recordAfter isRecord
+  comes-frame g h = (rw (g, h), rw (g, h), rw (g, h))
+
+  pub comes-bad : isCycle r ≡ false → isFrame r ≡ false → Comes badLine s false
+  unfolding recordLine recordAfter isRecord
+  comes-bad g h = (rw (g, h), rw (g, h), rw (g, h))
+
+  module _ {bs u : List ℕ} {good : Bool} (e : Comes bs u good) (l : List ℕ) {m t : List ℕ} {p : ℕ} where
+    pub played : m ≡ put l 0 bs → p ≡ length bs → p ≤ 513 → length l ≡ 513 → t ≡ u → (m ≡ recordLine r s ++ drop p l) × (((p ≡ length (recordLine r s)) × (p ≤ 513)) × ((good ≡ isRecord r) × (t ≡ recordAfter r s)))
+    played put-there long fits room left =
+        let all : m ≡ bs ++ drop p l = put-there ∙ (put-fits l 0 bs (omega arith) ∙ ap (λ (k : ℕ). bs ++ drop k l) (zero-add (length bs) ∙ sym long)) in
+        (rw (e .0) all, ((rw (e .0) long, fits), (sym (e .2), left ∙ sym (e .1))))

@@ -1,0 +1,96 @@
+-- Document 01, "Journal program": one record, the line that it writes, and the station after it.
+use mathlib.Core.Bool.{Bool, cond, _&&_, _||_}
+use mathlib.Core.List.{List, [], _∷_, _++_}
+use Prim.Native.Nat.{ℕ, _+_}
+use lib.Dec.{eqb, leb}
+use lib.ListN.{length, take, drop, getD, replicate}
+use Rattle.codes.specs.Number.{numberAt, signedOf}
+use Rattle.drive.specs.Faults.{zeros}
+use Rattle.station.specs.declared.Cycled.{Cycled}
+use Rattle.station.specs.declared.Framed.{Framed}
+use Rattle.station.specs.Calls.{Call, cycle, frame, Answer, toCycle, toFrame, kinds}
+use Rattle.station.specs.Isolation.{answer, after}
+use Rattle.journal.specs.Text.{decimal, signed, hexWord, hexBytes}
+
+-- "Kind 1, 10 bytes: axis, flags, STW1, NSOLL_A, NIST_A, fault."
+abbrev pub cycleRecord : ℕ
+cycleRecord = 11
+
+-- "Kind 2, 246 bytes: farm, frame length 0..244, 244 bytes, zero past the length."
+abbrev pub frameRecord : ℕ
+frameRecord = 247
+
+-- "Records: one byte of kind, then a body": how long a record of a kind is; anything else is bad by its kind byte
+abbrev pub recordLength : ℕ → ℕ
+recordLength kind = cond (eqb kind 1) cycleRecord (cond (eqb kind 2) frameRecord 1)
+
+abbrev pub cycleCall : List ℕ → Call
+cycleCall r =
+    cycle (getD r 1 0)
+    (record {
+      flags = getD r 2 0;
+      stw1 = numberAt 2 r 3;
+      nsoll = signedOf 2 (numberAt 2 r 5);
+      nist = signedOf 2 (numberAt 2 r 7);
+      fault = numberAt 2 r 9;
+    })
+
+abbrev pub frameLength : List ℕ → ℕ
+frameLength r = getD r 2 0
+
+-- the reply memory of a replay
+abbrev pub replyRoom : List ℕ
+replyRoom = replicate 244 0
+
+abbrev pub frameCall : List ℕ → Call
+frameCall r = frame (getD r 1 0) (take (frameLength r) (drop 3 r)) replyRoom
+
+abbrev pub isCycle : List ℕ → Bool
+isCycle r = eqb (length r) cycleRecord && eqb (getD r 0 0) 1
+
+abbrev pub isFrame : List ℕ → Bool
+isFrame r =
+    eqb (length r) frameRecord && (eqb (getD r 0 0) 2 && (leb (frameLength r) 244 && zeros (drop (3 + frameLength r) r)))
+
+-- the state's name
+abbrev pub stateName : ℕ → List ℕ
+stateName n = 0x53 ∷ decimal n
+
+abbrev pub space : ℕ
+space = 0x20
+
+-- "`c`, axis, state, ZSW1 in hex, rpm in decimal"; "A refused cycle writes `x` and its number."
+abbrev pub cycleLine : ℕ → Cycled → List ℕ
+cycleLine axis r =
+    cond (eqb (r .number) 0)
+    (0x63 ∷ space ∷ decimal axis ++ (space ∷ stateName (r .state) ++ (space ∷ hexWord (r .status) ++ (space ∷ signed (r .rpm)))))
+    (0x78 ∷ space ∷ decimal (r .number))
+
+-- "`f`, farm, elements stored, reply in hex. An empty reply prints `-`."
+abbrev pub replyText : List ℕ → List ℕ
+replyText bs = cond (eqb (length bs) 0) (0x2D ∷ []) (hexBytes bs)
+
+abbrev pub frameLine : ℕ → Framed → List ℕ → List ℕ
+frameLine farm r reply =
+    0x66 ∷ space ∷ decimal farm ++ (space ∷ decimal (r .stored) ++ (space ∷ replyText (take (r .length) reply)))
+
+abbrev pub lineOf : List ℕ → Answer → List ℕ
+lineOf r (toCycle c) = cycleLine (getD r 1 0) c
+lineOf r (toFrame f reply) = frameLine (getD r 1 0) f reply
+
+-- the line that a call of the record r writes on the station s
+abbrev pub written : List ℕ → Call → List ℕ → List ℕ
+written r c s = lineOf r (answer kinds c s) ++ (0x0A ∷ [])
+
+-- "Anything else, or a cut body, writes `bad` and ends"
+abbrev pub badLine : List ℕ
+badLine = 0x62 ∷ 0x61 ∷ 0x64 ∷ 0x0A ∷ []
+
+unfoldable pub isRecord : List ℕ → Bool
+isRecord r = isCycle r || isFrame r
+
+unfoldable pub recordLine : List ℕ → List ℕ → List ℕ
+recordLine r s = cond (isCycle r) (written r (cycleCall r) s) (cond (isFrame r) (written r (frameCall r) s) badLine)
+
+unfoldable pub recordAfter : List ℕ → List ℕ → List ℕ
+recordAfter r s = cond (isCycle r) (after kinds (cycleCall r) s) (cond (isFrame r) (after kinds (frameCall r) s) s)

@@ -1,0 +1,67 @@
+// Which bytes are a record.
+ghost use mathlib.Core.Path.{_≡_};
+ghost use Prim.Native.Nat.{_≤_};
+ghost use lib.ListN.{drop};
+ghost use Rattle.drive.specs.Faults.{zeros};
+ghost use Rattle.journal.specs.Line.{recordLength, isCycle, isFrame};
+
+// Records, with their kind byte, and what of a frame's stands before the frame.
+const CYCLE: usize = 11;
+
+const FRAME: usize = 247;
+
+pub(crate) const FRAME_HEAD: usize = 3;
+
+// The most bytes of a frame, and of a reply.
+pub(crate) const FRAME_ROOM: usize = 244;
+
+// How long a record is, by its kind byte; anything else ends with that byte.
+pub fn record_length(kind: u8) -> usize
+    ensures { λ r. ⌜ r ≡ recordLength kind ⌝ }
+    ensures { λ r. ⌜ (1 ≤ r) × (r ≤ 247) ⌝ }
+{
+    match kind {
+        1 => CYCLE,
+        2 => FRAME,
+        _ => 1,
+    }
+}
+
+pub(crate) fn is_cycle(bytes: &[u8]) -> bool
+    ensures { λ r. ⌜ r ≡ isCycle (now (bytes .entry)) ⌝ }
+{
+    if bytes.len() != CYCLE {
+        return false;
+    }
+    bytes[0] == 1
+}
+
+// Whether every byte from `from` on is 0.
+fn is_clear(s: &[u8], from: usize) -> bool
+    ensures { λ r. ⌜ r ≡ zeros (drop from (now (s .entry))) ⌝ }
+{
+    let mut i = from;
+    while i < s.len() {
+        if s[i] != 0 {
+            return false;
+        }
+        i += 1;
+    }
+    true
+}
+
+pub(crate) fn is_frame(bytes: &[u8]) -> bool
+    ensures { λ r. ⌜ r ≡ isFrame (now (bytes .entry)) ⌝ }
+{
+    if bytes.len() != FRAME {
+        return false;
+    }
+    if bytes[0] != 2 {
+        return false;
+    }
+    let n = codes::wide(bytes[2]);
+    if FRAME_ROOM < n {
+        return false;
+    }
+    is_clear(bytes, FRAME_HEAD + n)
+}
