@@ -94,11 +94,11 @@ fn run(options: &Options) -> Result<Tally, String> {
         let calls = trial.tally.calls;
         match options.time {
             None if calls >= options.calls => break,
-            Some(time) if calls.is_multiple_of(ALL_PARTS) && start.elapsed() >= time => break,
+            Some(time) if calls % ALL_PARTS == 0 && start.elapsed() >= time => break,
             _ => {}
         }
         trial.step()?;
-        if options.time.is_some() && calls.is_multiple_of(ALL_PARTS) && said.elapsed() >= Duration::from_secs(10) {
+        if options.time.is_some() && calls % ALL_PARTS == 0 && said.elapsed() >= Duration::from_secs(10) {
             println!("{} s, {calls} calls", start.elapsed().as_secs());
             said = Instant::now();
         }
@@ -129,7 +129,7 @@ impl Trial {
                 self.call(call, STATION, Setting::Left, kind)?;
             }
         }
-        if self.tally.calls.is_multiple_of(ALL_PARTS) {
+        if self.tally.calls % ALL_PARTS == 0 {
             self.pair.compare_all().map_err(|difference| format!("disagreement: {difference:?}"))?;
         }
         Ok(())

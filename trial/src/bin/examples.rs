@@ -413,7 +413,7 @@ fn play_case(case: &Case, size: usize) -> Result<(), Failure> {
 fn main() -> ExitCode {
     let files: Vec<String> = env::args().skip(1).collect();
     let size = face::size();
-    if files.is_empty() || size == 0 || !size.is_multiple_of(PARTS) {
+    if files.is_empty() || size == 0 || size % PARTS != 0 {
         eprintln!("usage: examples FILE... (a station has {size} bytes, which must be 16 equal parts)");
         return ExitCode::FAILURE;
     }

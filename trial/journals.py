@@ -1,0 +1,62 @@
+#!/usr/bin/env python3
+"""Plays journals with their expected output through a replay program: journals.py FILE PROGRAM [ARGUMENT...].
+
+Each case's journal goes to the program's standard input; its whole standard output must be the case's lines.
+Ends with "N journals, M failed", status 1 if any failed or the file has no case."""
+import subprocess
+import sys
+
+
+def bytes_of(words):
+    out = b''
+    for word in words:
+        times, star, group = word.rpartition('*')
+        out += bytes.fromhex(group) * (int(times) if star else 1)
+    return out
+
+
+def expand(line):
+    words = line.split()
+    if words[0] == 'f' and words[3:] != ['-']:
+        words[3:] = [bytes_of(words[3:]).hex().upper()]
+    return ' '.join(words)
+
+
+def cases(text):
+    lines = []
+    for whole in text.split('\n'):
+        line = whole.split('#')[0].rstrip()
+        if whole.strip() and not line.strip():
+            continue
+        if line.startswith(' ') and lines:
+            lines[-1] += line
+        else:
+            lines.append(line)
+    case = None
+    for line in lines:
+        key, _, rest = line.partition(' ')
+        if key == 'case':
+            case = {'name': rest, 'journal': b'', 'out': ''}
+            yield case
+        elif key == 'journal':
+            case['journal'] += bytes_of(rest.split())
+        elif key == 'out':
+            case['out'] += expand(rest) + '\n'
+        elif key not in ('', 'source', 'note'):
+            sys.exit(f'unknown key: {line}')
+
+
+def main():
+    path, program = sys.argv[1], sys.argv[2:]
+    every = list(cases(open(path, encoding='utf-8').read()))
+    failed = 0
+    for case in every:
+        got = subprocess.run(program, input=case['journal'], stdout=subprocess.PIPE, check=False).stdout.decode()
+        if got != case['out']:
+            failed += 1
+            print(f"case {case['name']}: expected\n{case['out']}got\n{got}")
+    print(f'{len(every)} journals, {failed} failed')
+    sys.exit(1 if failed or not every else 0)
+
+
+main()

@@ -1,0 +1,66 @@
+//! Writes a journal of made-up records to standard output, for two replay programs to be given alike.
+
+#![forbid(unsafe_code)]
+#![deny(warnings)]
+
+use std::io::{self, BufWriter, Write};
+use trial::random::Random;
+use trial::{blocks, words};
+use twin::{Station, AXES};
+
+const FRAME_ROOM: usize = 244;
+
+fn main() -> io::Result<()> {
+    let records = std::env::args().nth(1).and_then(|n| n.parse().ok()).unwrap_or(10_000);
+    let mut random = Random::new(7);
+    let mut station = Station::fresh();
+    let mut out = BufWriter::new(io::stdout());
+    for _ in 0..records {
+        if random.one_in(2) {
+            cycle(&mut random, &mut station, &mut out)?;
+        } else {
+            frame(&mut random, &mut station, &mut out)?;
+        }
+    }
+    out.flush()
+}
+
+/// The owner of this part, or seldom nobody.
+fn number(random: &mut Random, index: usize) -> u8 {
+    if random.one_in(150) {
+        random.pick(&[0, 17, 255])
+    } else {
+        index as u8 + 1
+    }
+}
+
+/// A record of kind 1; the station goes along, so that the words to come fit its states.
+fn cycle(random: &mut Random, station: &mut Station, out: &mut impl Write) -> io::Result<()> {
+    let index = random.below(AXES);
+    let axis = number(random, index);
+    let i = words::inputs(random, &station.axes[index]);
+    let flags = i.flags.min(255) as u8;
+    out.write_all(&[1, axis, flags])?;
+    for word in [i.stw1, i.nsoll as u16, i.nist as u16, i.fault] {
+        out.write_all(&word.to_be_bytes())?;
+    }
+    station.cycle(u32::from(axis), u32::from(flags), i.stw1, i.nsoll, i.nist, i.fault);
+    Ok(())
+}
+
+/// A record of kind 2, where the frame has room in one.
+fn frame(random: &mut Random, station: &mut Station, out: &mut impl Write) -> io::Result<()> {
+    let index = random.below(AXES);
+    let farm = number(random, index);
+    let waiting = station.axes[index].waiting.as_ref().map(|waiting| waiting.length);
+    let (_, frame) = blocks::frame(random, index as u8 + 1, waiting);
+    if frame.len() > FRAME_ROOM {
+        return Ok(());
+    }
+    let mut body = [0; FRAME_ROOM];
+    body[..frame.len()].copy_from_slice(&frame);
+    out.write_all(&[2, farm, frame.len() as u8])?;
+    out.write_all(&body)?;
+    station.frame(u32::from(farm), &frame, &mut [0; FRAME_ROOM]);
+    Ok(())
+}
