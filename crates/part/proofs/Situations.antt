@@ -1,6 +1,6 @@
 -- How the tests of a situation and of the bytes that must be 0 go on from one place to the next.
-use mathlib.Core.Path.{_≡_, _∙_, ap}
-use mathlib.Core.Bool.{Bool, true, false, _&&_}
+use mathlib.Core.Path.{_≡_, sym, _∙_, ap}
+use mathlib.Core.Bool.{Bool, true, false, _&&_, and-false}
 use mathlib.Core.List.{List}
 use Prim.Native.Nat.{ℕ, suc, _+_, _*_, _-_, _≤_, _<_}
 use native.Mathlib.Omega.{arith}
@@ -8,7 +8,7 @@ use native.Mathlib.Numerals.{add-one}
 use lib.Dec.{eqb}
 use lib.ListN.{length, getD, take, drop, drop-of-length-le}
 use lib.Seq.{drop-cons, drop-drop}
-use borrow.Author.Tests.{eq-eqb, ne-eqb, eqb-true, eqb-false}
+use borrow.Author.Tests.{eq-eqb, ne-eqb, eqb-true}
 use borrow.Table.Steps.{cases}
 use Rattle.drive.specs.Faults.{situations, codes, isIn, zeros, proper, allProper}
 
@@ -50,17 +50,17 @@ module _ (s : List ℕ) (i : ℕ) (h : length s ≤ i) where
   pub proper-end : proper (drop i s) ≡ true
   proper-end = rw (drop-of-length-le s {i = i} h)
 
--- a sum is 0 where what is added up is
-sum-zero : (a b : ℕ) → eqb (a + b) 0 ≡ (eqb a 0 && eqb b 0)
-sum-zero a b =
-    cases (eqb a 0)
-    (λ ea. cases (eqb b 0)
-    (λ eb. rw (ea, eb) (eq-eqb (a + b) 0 (omega (arith, eqb-true a 0 ea, eqb-true b 0 eb))))
-    (λ nb. rw (ea, nb) (ne-eqb (a + b) 0 (λ e. eqb-false b 0 nb (omega arith)))))
-    (λ na. rw na (ne-eqb (a + b) 0 (λ e. eqb-false a 0 na (omega arith))))
+-- the larger of two numbers is 0 where both are
+module _ (a b : ℕ) where
+  pub larger-right : a < b → eqb b 0 ≡ (eqb a 0 && eqb b 0)
+  larger-right h = let n = ne-eqb b 0 (λ e. omega arith) in n ∙ rw n (sym (and-false (eqb a 0)))
 
-pub sum-next : (s : List ℕ) (i sum : ℕ) → i < length s → (eqb sum 0 && zeros (drop i s)) ≡ (eqb (sum + getD s i 0) 0 && zeros (drop (i + 1) s))
-sum-next s i sum h = rw (zeros-here s i h, sum-zero sum (getD s i 0)) (regroup (eqb sum 0) (eqb (getD s i 0) 0) (zeros (drop (i + 1) s)))
+  pub larger-left : b ≤ a → eqb a 0 ≡ (eqb a 0 && eqb b 0)
+  larger-left h = cases (eqb a 0) (λ e. rw (e, eq-eqb b 0 (omega (arith, eqb-true a 0 e)))) (λ n. rw n)
+
+-- and with the next byte
+pub larger-next : (s : List ℕ) (i m l : ℕ) → i < length s → eqb l 0 ≡ (eqb m 0 && eqb (getD s i 0) 0) → (eqb m 0 && zeros (drop i s)) ≡ (eqb l 0 && zeros (drop (i + 1) s))
+larger-next s i m l h e = rw (zeros-here s i h, e) (regroup (eqb m 0) (eqb (getD s i 0) 0) (zeros (drop (i + 1) s)))
   where
     regroup : (a b c : Bool) → (a && (b && c)) ≡ (a && b && c)
     regroup true b c = cc

@@ -1,19 +1,21 @@
 -- The words of a run, read one after the other.
 use mathlib.Core.Path.{_≡_, refl, sym, _∙_, ap}
+use mathlib.Core.Bool.{true, and-eq-true-iff}
 use mathlib.Core.List.{List, [], _∷_, _++_, append-nil, append-assoc}
 use Prim.Native.Nat.{ℕ, zero, suc, _+_, _*_, _-_, _≤_, _<_}
 use native.Mathlib.Omega.{arith}
 use native.Mathlib.Numerals.{add-one}
-use lib.Dec.{lit≤}
-use lib.ListN.{length, take, drop, set, replicate}
+use lib.Dec.{eqb, lit≤, lit<}
+use lib.ListN.{length, take, drop, set, replicate, length-drop, take-append-drop}
 use lib.Seq.{set-at, append-snoc, drop-at, drop-drop, length-take-le}
+use borrow.Author.Tests.{eqb-true}
 use Rattle.codes.specs.Code.{AllOf, word, writeAll}
 use Rattle.codes.specs.Number.{numberAt, put}
 use Rattle.codes.proofs.Sound.{word-sound, valid-word}
 use Rattle.codes.proofs.Put.{word-length, put-fits}
 use Rattle.codes.proofs.Number.{number-is}
 use Rattle.codes.proofs.Items.{all-length}
-use Rattle.drive.specs.Faults.{buffer}
+use Rattle.drive.specs.Faults.{buffer, zeros}
 use Rattle.part.specs.Record.{wordsAt}
 
 pub words-length : (n : ℕ) (p : List ℕ) (at : ℕ) → length (wordsAt n p at) ≡ n
@@ -74,3 +76,22 @@ words-same (suc n) p q at h =
     let step : (i : ℕ) → at + suc i * 2 ≡ at + 2 + i * 2 = λ i. omega arith in
     ap (λ (y : ℕ). y ∷ wordsAt n q (at + 2)) first
     ∙ ap (λ (l : List ℕ). numberAt 2 p at ∷ l) (words-same n p q (at + 2) (λ i k. rw (← step i) (h (suc i) (omega arith))))
+
+zeros-are : (s : List ℕ) → zeros s ≡ true → s ≡ replicate (length s) 0
+zeros-are [] h = refl
+zeros-are (y ∷ ys) h =
+    let both = and-eq-true-iff (eqb y 0) (zeros ys) .0 h in
+    rw (eqb-true y 0 (both .0)) (ap (λ (l : List ℕ). 0 ∷ l) (zeros-are ys (both .1)))
+
+-- where every byte of the buffer is 0, so is every code
+pub clear-words : (p : List ℕ) (at : ℕ) → at + buffer * 2 ≤ length p → zeros (take (buffer * 2) (drop at p)) ≡ true → wordsAt buffer p at ≡ replicate buffer 0
+clear-words p at room h =
+    let bs = take (buffer * 2) (drop at p) in
+    let n : length bs ≡ buffer * 2 = length-take-le (buffer * 2) (drop at p) (omega (arith, length-drop at p)) in
+    let clear : bs ≡ replicate (buffer * 2) 0 = zeros-are bs h ∙ ap (λ (k : ℕ). replicate k 0) n in
+    words-read (replicate buffer 0) p at (drop (buffer * 2) (drop at p)) (small buffer)
+    (sym (take-append-drop (buffer * 2) (drop at p)) ∙ ap (λ (l : List ℕ). l ++ drop (buffer * 2) (drop at p)) clear)
+  where
+    small : (n : ℕ) → Words (replicate n 0)
+    small zero = tt
+    small (suc n) = (lit< tt, small n)

@@ -145,7 +145,7 @@ fn situation_fits(s: &[u16]) -> bool
     true
 }
 
-fn faults_fit(part: &[u8]) -> bool
+fn situations_fit(part: &[u8]) -> bool
     ensures { λ q. ⌜ q ≡ properFaults (faultsOf (now (part .entry))) ⌝ }
 {
     let b = super::record::codes_of(part);
@@ -159,6 +159,19 @@ fn faults_fit(part: &[u8]) -> bool
         k += 1;
     }
     true
+}
+
+// Mostly no code stands in the buffer, and one look at its bytes settles it.
+fn faults_fit(part: &[u8]) -> bool
+    requires { ⌜ length (now part) ≡ partSize ⌝ }
+    ensures { λ q. ⌜ q ≡ properFaults (faultsOf (now (part .entry))) ⌝ }
+{
+    let start = catalogue::AT_947 as usize;
+    let end = catalogue::AT_965 as usize;
+    if super::runs::is_clear(&part[start..end]) {
+        return true;
+    }
+    situations_fit(part)
 }
 
 // The waiting response is none or a readable block of that axis.

@@ -1,6 +1,8 @@
 // Runs of bytes in a slice: copied, cleared, and tested for 0.
 ghost use mathlib.Core.Path.{_≡_};
+ghost use mathlib.Core.Bool.{_&&_};
 ghost use Prim.Native.Nat.{_+_, _≤_};
+ghost use lib.Dec.{eqb};
 ghost use lib.ListN.{length, replicate};
 ghost use Rattle.codes.specs.Number.{put};
 ghost use Rattle.drive.specs.Faults.{zeros};
@@ -29,16 +31,22 @@ pub(crate) fn clear_bytes(out: &mut [u8], at: usize, n: usize)
     }
 }
 
-// Whether every byte is 0, by their sum: no early exit, so that many bytes are added at a time.
+// 0 where both are.
+fn larger(a: u8, b: u8) -> u8
+    ensures { λ r. ⌜ eqb r 0 ≡ (eqb a 0 && eqb b 0) ⌝ }
+{
+    if a < b { b } else { a }
+}
+
+// Whether every byte is 0, by the largest: no early exit, so that many bytes are compared at a time.
 pub(crate) fn is_clear(s: &[u8]) -> bool
-    requires { ⌜ length (now s) ≤ 65536 ⌝ }
     ensures { λ r. ⌜ r ≡ zeros (now (s .entry)) ⌝ }
 {
-    let mut sum: u32 = 0;
+    let mut largest: u8 = 0;
     let mut i: usize = 0;
     while i < s.len() {
-        sum += s[i] as u32;
+        largest = larger(largest, s[i]);
         i += 1;
     }
-    sum == 0
+    largest == 0
 }

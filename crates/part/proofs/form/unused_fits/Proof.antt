@@ -1,7 +1,7 @@
 -- The bytes after the waiting response, to the end of the part.
 use Rattle.part.specs.Layout.{responseAt}
 use lib.Seq.{take-all}
-use lib.ListN.{length-take, length-drop, length, drop}
+use lib.ListN.{length-drop, length, drop}
 use Rattle.drive.specs.Faults.{zeros}
 use Rattle.catalogue.specs.Table.{rows, parameterBytes}
 use Rattle.part.proofs.Waits.{unused-none, unused-is}
@@ -41,11 +41,7 @@ unfolding parameterBytes rows
 part-is-clear-end c = omega arith
 
 is-clear-requires : tie.Need-is-clear-requires
-unfolding parameterBytes rows
-is-clear-requires c κs =
-    let p = now (c .before .before .before .before .before .args .part) in
-    let start = responseAt + c .before .before .wide .result in
-    omega (arith, length-take (length p - start) (drop start p), length-drop start p)
+is-clear-requires c κs = search needs
 
 returns-2 : tie.Need-returns-2
 unfolding parameterBytes rows

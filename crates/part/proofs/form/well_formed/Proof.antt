@@ -38,7 +38,8 @@ returns-3 c =
     after-state (a .axis) (now (a .part)) (c .before .before .before .before .before .if1 .left) (ap isState (sym (c .before .before .before .before .byte-at .ensures)) ∙ sym (c .before .before .before .is-state .ensures) ∙ not-false _ (c .before .before .if2 .left)) false (sym (not-true _ (c .if3 .taken)) ∙ c .before .rows-fit .ensures)
 
 faults-fit-requires : tie.Need-faults-fit-requires
-faults-fit-requires c κs = search needs
+unfolding parameterBytes rows
+faults-fit-requires c κs = c .before .before .before .before .before .if1 .left
 
 returns-4 : tie.Need-returns-4
 unfolding parameterBytes rows
