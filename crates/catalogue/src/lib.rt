@@ -69,7 +69,7 @@ pub const PARAMETER_BYTES: u16 = AT_30004 + 2 * 4;
 // How many parameters there are.
 pub const ROWS: usize = 15;
 
-const ROW_930: Row = Row {
+pub const ROW_930: Row = Row {
     low: 0,
     high: 0,
     fresh: 1,
@@ -108,7 +108,7 @@ const ROW_947: Row = Row {
     offset: AT_947,
 };
 
-const ROW_965: Row = Row {
+pub const ROW_965: Row = Row {
     low: 0,
     high: 0,
     fresh: 3,
@@ -199,7 +199,7 @@ const ROW_10103: Row = Row {
     offset: AT_10103,
 };
 
-const ROW_10111: Row = Row {
+pub const ROW_10111: Row = Row {
     low: 1,
     high: 60000,
     fresh: 1500,
@@ -212,7 +212,7 @@ const ROW_10111: Row = Row {
     offset: AT_10111,
 };
 
-const ROW_30001: Row = Row {
+pub const ROW_30001: Row = Row {
     low: 0,
     high: 3000,
     fresh: 0,
@@ -225,7 +225,7 @@ const ROW_30001: Row = Row {
     offset: AT_30001,
 };
 
-const ROW_30002: Row = Row {
+pub const ROW_30002: Row = Row {
     low: 0,
     high: 16384,
     fresh: 164,
@@ -238,7 +238,7 @@ const ROW_30002: Row = Row {
     offset: AT_30002,
 };
 
-const ROW_30003: Row = Row {
+pub const ROW_30003: Row = Row {
     low: 0,
     high: 32767,
     fresh: 16384,
@@ -251,7 +251,7 @@ const ROW_30003: Row = Row {
     offset: AT_30003,
 };
 
-const ROW_30004: Row = Row {
+pub const ROW_30004: Row = Row {
     low: -100000,
     high: 100000,
     fresh: 0,

@@ -1,14 +1,15 @@
 -- How the tests of a row's elements and of the table's rows go on from one to the next.
 use mathlib.Core.Path.{_≡_, refl, sym, _∙_, ap}
-use mathlib.Core.Bool.{Bool, true, false, cond, _&&_, and-false}
-use mathlib.Core.List.{_∷_}
+use mathlib.Core.Bool.{Bool, true, false, cond, _&&_, and-true, and-false}
+use mathlib.Core.List.{List, _∷_}
 use Prim.Native.Nat.{ℕ, zero, suc, _+_, _%_, _≤_, _<_}
 use native.Mathlib.Omega.{arith}
 use native.Mathlib.Numerals.{add-one}
 use native.Mathlib.Decide.{decLt}
 use lib.IntN.{ℤ, pos, negsuc}
 use lib.Signed.{leZ}
-use lib.ListN.{length, drop, drop-of-length-le}
+use lib.Dec.{lit<}
+use lib.ListN.{length, drop}
 use lib.Seq.{drop-cons}
 use borrow.Author.Tests.{le-leb, leb-true}
 use borrow.Table.Steps.{cases}
@@ -16,8 +17,8 @@ use Rattle.catalogue.specs.declared.Row.{Row}
 use Rattle.catalogue.specs.declared.Kind.{Kind}
 use Rattle.catalogue.specs.declared.Kind.the-variants.{U16}
 use Rattle.catalogue.specs.Table.{rows, noRow, rowAt}
-use Rattle.catalogue.specs.Element.{valueOf, inside}
-use Rattle.part.specs.WellFormed.{everyElement, everyRow}
+use Rattle.catalogue.specs.Element.{valueOf, inside, elementOf}
+use Rattle.part.specs.WellFormed.{everyElement, everyRow, limitsFit, fixedFit}
 
 module _ (ok : ℕ → Bool) where
   pub every-next : (i : ℕ) → everyElement ok i ≡ true → ok i ≡ true → everyElement ok (i + 1) ≡ true
@@ -49,26 +50,17 @@ module _ (asked : Bool) (ok : ℕ → Bool) (n i : ℕ) where
   pub asked-fit : asked ≡ true → i ≡ n → everyElement ok i ≡ true → true ≡ cond asked (everyElement ok n) true
   asked-fit e h f = rw (e, ← h) (sym f)
 
--- two tests of the rows from the i-th on
-abbrev pub from-row : (Row → Bool) → (Row → Bool) → ℕ → Bool
-from-row ok also i = everyRow ok (drop i rows) && everyRow also (drop i rows)
-
-module _ (ok also : Row → Bool) (i : ℕ) (h : i < length rows) where
+-- a test of the rows from the i-th on
+module _ (ok : Row → Bool) (i : ℕ) (h : i < length rows) where
   split : drop i rows ≡ rowAt i ∷ drop (i + 1) rows
   unfolding rowAt
   split = rw (add-one i) (drop-cons rows i noRow h)
 
-  pub row-unfit : ok (rowAt i) ≡ false → from-row ok also i ≡ false
+  pub row-unfit : ok (rowAt i) ≡ false → everyRow ok (drop i rows) ≡ false
   row-unfit e = rw (split, e)
 
-  pub row-unfit-also : also (rowAt i) ≡ false → from-row ok also i ≡ false
-  row-unfit-also e = rw (split, e, and-false)
-
-  pub row-next : ok (rowAt i) ≡ true → also (rowAt i) ≡ true → from-row ok also i ≡ from-row ok also (i + 1)
-  row-next e f = rw (split, e, f)
-
-pub row-none : (ok also : Row → Bool) (i : ℕ) → length rows ≤ i → from-row ok also i ≡ true
-row-none ok also i h = rw (drop-of-length-le rows {i = i} h)
+  pub row-fits : ok (rowAt i) ≡ true → everyRow ok (drop i rows) ≡ everyRow ok (drop (i + 1) rows)
+  row-fits e = rw (split, e)
 
 -- a row of words whose limits are those of a word
 module _ (r : Row) where
@@ -86,3 +78,18 @@ module _ (r : Row) where
       ap (λ (t : Kind). leZ (r .low) (valueOf t x) && leZ (valueOf t x) (r .high)) k
       ∙ (ap (λ (t : Bool). t && leZ (pos (x % 65536)) (r .high)) (above-low (r .low) (x % 65536) low)
       ∙ below-high (r .high) (x % 65536) (omega arith) high)
+
+module _ (p : List ℕ) where
+  word-free : (r : Row) → r .kind ≡ U16 → leZ (r .low) (pos 0) ≡ true → leZ (pos 65535) (r .high) ≡ true → limitsFit p r ≡ true
+  unfolding limitsFit
+  word-free r k low high = sym (asked-all (r .writable) (λ (i : ℕ). inside r (elementOf r i p)) (r .count) 0 (λ i. free-inside r k low high (elementOf r i p)))
+
+  -- the first ten rows are read only or take every word
+  pub from-10111 : everyRow (limitsFit p) rows ≡ everyRow (limitsFit p) (drop 10 rows)
+  unfolding rows rowAt limitsFit
+  from-10111 = row-fits (limitsFit p) 4 (lit< tt) (word-free (rowAt 4) refl refl refl) ∙ row-fits (limitsFit p) 5 (lit< tt) (word-free (rowAt 5) refl refl refl)
+
+  -- the rows after 930 but for 965 may hold anything
+  pub after-930 : everyRow (fixedFit p) (drop 1 rows) ≡ fixedFit p (rowAt 3)
+  unfolding rows rowAt fixedFit
+  after-930 = and-true (fixedFit p (rowAt 3))
