@@ -1,7 +1,8 @@
 //! Frames: readable blocks of every kind, the reads that fetch the answers, and damage of every sort.
 
+use crate::layout::{Block, Values, ADDRESS};
 use crate::random::Random;
-use twin::{Parameter, Type, BLOCK_MAX};
+use twin::{Address, Parameter, Type, BLOCK_MAX};
 
 /// What a frame was made to be; damage may have changed it since.
 #[derive(Clone, Copy, Debug, PartialEq, Eq)]
@@ -53,9 +54,17 @@ fn read(random: &mut Random, waiting: usize) -> Vec<u8> {
 
 fn write(random: &mut Random, axis: u8) -> (Kind, Vec<u8>) {
     let axis = if random.one_in(30) { random.pick(&[0, 1, 2, 16, 17, axis ^ 1, axis + 16, 255]) } else { axis };
-    let (kind, block) =
-        if random.one_in(2) { (Kind::Request, request(random, axis)) } else { (Kind::Change, change(random, axis)) };
-    (kind, framed(&block))
+    let (kind, block) = block(random, axis);
+    (kind, framed(&block.bytes()))
+}
+
+/// A request or a change of this axis, mostly readable.
+pub fn block(random: &mut Random, axis: u8) -> (Kind, Block) {
+    if random.one_in(2) {
+        (Kind::Request, request(random, axis))
+    } else {
+        (Kind::Change, change(random, axis))
+    }
 }
 
 /// The write frame of a block, with its true length as far as a byte holds it.
@@ -82,50 +91,58 @@ fn parameters(random: &mut Random) -> usize {
     }
 }
 
-fn request(random: &mut Random, axis: u8) -> Vec<u8> {
+fn request(random: &mut Random, axis: u8) -> Block {
     let count = parameters(random);
     let long = random.one_in(3);
     let right = random.one_in(2);
-    let mut block = vec![reference(random), 1, axis, count as u8];
+    let mut block = empty(reference(random), 0x01, axis);
     for _ in 0..count {
         let pnu =
             if long && !random.one_in(6) { random.pick(&[947, 947, 9901, 965]) } else { pnu(random, &KNOWN, right) };
-        block.extend(address(random, pnu, right));
+        block.addresses.push(address(random, pnu, right));
     }
-    block
+    Block { count: count as u8, ..block }
+}
+
+fn empty(reference: u8, identifier: u8, axis: u8) -> Block {
+    Block { reference, identifier, axis, count: 0, addresses: Vec::new(), values: Vec::new() }
 }
 
 /// A change of as many parameters as were wished for and fit; now and then filled up to the last bytes of a block.
-fn change(random: &mut Random, axis: u8) -> Vec<u8> {
+fn change(random: &mut Random, axis: u8) -> Block {
     let wish = parameters(random);
     let right = random.one_in(2);
-    let (mut addresses, mut values) = (Vec::new(), Vec::new());
+    let mut block = empty(0, 0x02, axis);
     for _ in 0..wish {
         let known = if right || random.percent(85) { WRITABLE } else { &KNOWN };
         let pnu = pnu(random, known, right);
         let address = address(random, pnu, right);
-        let block = value_block(random, pnu, address[1], right);
-        if HEADER + addresses.len() + address.len() + values.len() + block.len() > BLOCK_MAX {
+        let values = value_block(random, pnu, address.elements, right);
+        if block.length() + ADDRESS + values.length() > BLOCK_MAX {
             break;
         }
-        addresses.extend(address);
-        values.extend(block);
+        block.addresses.push(address);
+        block.values.push(values);
     }
     if random.one_in(8) {
-        fill_up(random, &mut addresses, &mut values);
+        fill_up(random, &mut block);
     }
-    let count = (addresses.len() / 6) as u8;
-    [&[reference(random), 2, axis, count][..], &addresses, &values].concat()
+    Block { reference: reference(random), count: block.addresses.len() as u8, ..block }
 }
 
 /// One more address, whose values end near the last byte of a block.
-fn fill_up(random: &mut Random, addresses: &mut Vec<u8>, values: &mut Vec<u8>) {
+fn fill_up(random: &mut Random, block: &mut Block) {
     let end: usize = random.pick(&[238, 239, 240, 240, 241]);
-    let Some(room) = end.checked_sub(HEADER + addresses.len() + values.len() + 8) else { return };
-    addresses.extend(address(random, 9901, false));
+    let Some(room) = end.checked_sub(block.length() + ADDRESS + 2) else { return };
+    block.addresses.push(address(random, 9901, false));
     let (format, size) = if room % 2 == 0 { (0x42, 2) } else { (0x41, 1) };
-    values.extend([format, (room / size) as u8]);
-    values.extend((0..room).map(|_| random.byte()));
+    block.values.push(any_values(random, format, size, room / size));
+}
+
+/// So many values, of any bytes.
+pub fn any_values(random: &mut Random, format: u8, size: usize, count: usize) -> Values {
+    let mut value = || (0..size).fold(0, |high, _| high << 8 | u32::from(random.byte()));
+    Values { format, size, values: (0..count).map(|_| value()).collect() }
 }
 
 /// One of the known ones; where the block need not be right, seldom another.
@@ -138,7 +155,7 @@ fn pnu(random: &mut Random, known: &[u16], right: bool) -> u16 {
     }
 }
 
-fn address(random: &mut Random, pnu: u16, right: bool) -> [u8; 6] {
+fn address(random: &mut Random, pnu: u16, right: bool) -> Address {
     let attribute = match random.below(40) {
         _ if right => 0x10,
         0 => 0x20,
@@ -151,9 +168,7 @@ fn address(random: &mut Random, pnu: u16, right: bool) -> [u8; 6] {
         None => one_element(random, right),
         Some(length) => elements_of(random, length, right),
     };
-    let [high, low] = pnu.to_be_bytes();
-    let [sub_high, sub_low] = sub_index.to_be_bytes();
-    [attribute, elements, high, low, sub_high, sub_low]
+    Address { attribute, elements, pnu, sub_index }
 }
 
 /// Elements and sub-index for a simple parameter.
@@ -187,7 +202,7 @@ fn elements_of(random: &mut Random, length: usize, right: bool) -> (u8, u16) {
 }
 
 /// A value block for an address, mostly of a right format and as many values as elements.
-fn value_block(random: &mut Random, pnu: u16, elements: u8, right: bool) -> Vec<u8> {
+fn value_block(random: &mut Random, pnu: u16, elements: u8, right: bool) -> Values {
     let parameter = Parameter::find(pnu);
     let kind = parameter.map_or(Type::U16, Parameter::kind);
     let format = match random.below(60) {
@@ -203,11 +218,7 @@ fn value_block(random: &mut Random, pnu: u16, elements: u8, right: bool) -> Vec<
     };
     let size = twin::block::format_size(format).unwrap_or(1);
     let limits = parameter.and_then(Parameter::limits).unwrap_or((0, 65535));
-    let mut block = vec![format, count as u8];
-    for _ in 0..count {
-        block.extend(&value(random, limits, right).to_be_bytes()[4 - size..]);
-    }
-    block
+    Values { format, size, values: (0..count).map(|_| value(random, limits, right) as u32).collect() }
 }
 
 /// A value at, inside or just outside the limits.

@@ -9,6 +9,7 @@
 
 pub mod blocks;
 pub mod face;
+pub mod layout;
 pub mod meaning;
 pub mod pair;
 pub mod parts;

@@ -1,5 +1,7 @@
 //! Parts of the station's memory that no run of calls need have left: at their limits, over them, and with any response.
 
+use crate::blocks::any_values;
+use crate::layout::{Block, Values};
 use crate::meaning::{encode, place, Field, PART};
 use crate::random::Random;
 use twin::{Axis, State, Waiting, BLOCK_MAX, CODES, SITUATIONS};
@@ -74,7 +76,7 @@ fn element(random: &mut Random, low: i32, high: i32) -> i32 {
 
 /// A response that waits: readable and of this axis but for now and then.
 fn waiting(random: &mut Random, axis: u8) -> Waiting {
-    let mut block = response(random, axis);
+    let mut block = response(random, axis).bytes();
     if random.one_in(4) {
         damage(random, &mut block);
     }
@@ -92,34 +94,31 @@ fn waiting(random: &mut Random, axis: u8) -> Waiting {
 }
 
 /// Every layout of a response block that document 01 has, of any length that fits.
-pub fn response(random: &mut Random, axis: u8) -> Vec<u8> {
+pub fn response(random: &mut Random, axis: u8) -> Block {
     let identifier = random.pick(&[0x01, 0x01, 0x02, 0x81, 0x81, 0x82]);
     let wish = random.pick(&[1, 1, 2, 5, 20, 38, 39]);
-    let mut items: Vec<u8> = Vec::new();
-    let mut count = 0;
-    while count < wish {
-        let fails = identifier > 0x80 && (count == 0 || random.one_in(3));
+    let mut block = Block { reference: 0, identifier, axis, count: 0, addresses: Vec::new(), values: Vec::new() };
+    while block.count < wish {
+        let fails = identifier > 0x80 && (block.count == 0 || random.one_in(3));
         let item = item(random, identifier, fails);
-        if 4 + items.len() + item.len() > BLOCK_MAX {
+        if block.length() + item.as_ref().map_or(0, Values::length) > BLOCK_MAX {
             break;
         }
-        items.extend(item);
-        count += 1;
+        block.values.extend(item);
+        block.count += 1;
     }
-    [&[1 + random.below(255) as u8, identifier, axis, count][..], &items].concat()
+    Block { reference: 1 + random.below(255) as u8, ..block }
 }
 
-fn item(random: &mut Random, identifier: u8, fails: bool) -> Vec<u8> {
+fn item(random: &mut Random, identifier: u8, fails: bool) -> Option<Values> {
     match identifier {
-        0x02 => Vec::new(),
-        _ if fails => vec![0x44, 1, random.pick(&[0, 0, 255]), random.byte()],
-        0x82 => vec![0x40, 0],
+        0x02 => None,
+        _ if fails => Some(Values::error(u16::from_be_bytes([random.pick(&[0, 0, 255]), random.byte()]))),
+        0x82 => Some(Values::zero()),
         _ => {
             let (format, size) = random.pick(&[(0x41, 1), (0x42, 2), (0x43, 4)]);
             let values = if random.one_in(200) { 0 } else { random.pick(&[1, 1, 2, 3, 8, 33]) };
-            let mut item = vec![format, values as u8];
-            item.extend((0..values * size).map(|_| random.byte()));
-            item
+            Some(any_values(random, format, size, values))
         }
     }
 }
