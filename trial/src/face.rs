@@ -56,6 +56,8 @@ struct Server {
 static SERVER: Mutex<Option<Server>> = Mutex::new(None);
 
 /// Starts the command in LLINKHIRO_SERVER, its words apart by spaces.
+// Nobody waits for it: it ends with this program, when its input does.
+#[allow(clippy::zombie_processes)]
 fn start() -> Server {
     let command = env::var("LLINKHIRO_SERVER").expect("LLINKHIRO_SERVER names the program that makes the calls");
     let mut words = command.split_whitespace();

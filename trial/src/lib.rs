@@ -8,6 +8,7 @@
 #![deny(missing_docs)]
 
 pub mod blocks;
+pub mod cases;
 pub mod face;
 pub mod layout;
 pub mod meaning;
