@@ -10,8 +10,10 @@
 pub mod blocks;
 pub mod cases;
 pub mod face;
+pub mod journal;
 pub mod layout;
 pub mod meaning;
+pub mod packets;
 pub mod pair;
 pub mod parts;
 pub mod random;

@@ -1,0 +1,125 @@
+//! Journals: their records, read and played on the library.
+
+use crate::face;
+use crate::packets::Exchange;
+use crate::words::Inputs;
+use std::io::{self, ErrorKind, Read};
+use twin::REPLY_MIN;
+
+const CYCLE_BODY: usize = 10;
+const FRAME_ROOM: usize = 244;
+
+/// A record.
+#[derive(Clone, Debug)]
+pub enum Record {
+    /// Kind 1: the inputs of a cycle of this axis.
+    Cycle(u8, Inputs),
+    /// Kind 2: a frame of this farm.
+    Frame(u8, Vec<u8>),
+}
+
+/// What comes next in a journal.
+#[derive(Clone, Debug)]
+pub enum Next {
+    /// A whole record.
+    Record(Record),
+    /// Another kind, a cut body, a frame too long or with something behind it: what follows cannot be read.
+    Bad,
+    /// The journal ends after a whole record.
+    End,
+}
+
+/// Reads one record.
+pub fn next(input: &mut impl Read) -> io::Result<Next> {
+    let mut kind = [0];
+    if !fill(input, &mut kind)? {
+        return Ok(Next::End);
+    }
+    let record = match kind {
+        [1] => cycle(input)?,
+        [2] => frame(input)?,
+        _ => None,
+    };
+    Ok(record.map_or(Next::Bad, Next::Record))
+}
+
+/// Fills the buffer; false where the input ends before.
+fn fill(input: &mut impl Read, buffer: &mut [u8]) -> io::Result<bool> {
+    match input.read_exact(buffer) {
+        Err(error) if error.kind() == ErrorKind::UnexpectedEof => Ok(false),
+        done => done.map(|()| true),
+    }
+}
+
+fn cycle(input: &mut impl Read) -> io::Result<Option<Record>> {
+    let mut body = [0; CYCLE_BODY];
+    let whole = fill(input, &mut body)?;
+    let word = |at: usize| u16::from_be_bytes([body[at], body[at + 1]]);
+    let inputs =
+        Inputs { flags: body[1].into(), stw1: word(2), nsoll: word(4) as i16, nist: word(6) as i16, fault: word(8) };
+    Ok(whole.then_some(Record::Cycle(body[0], inputs)))
+}
+
+fn frame(input: &mut impl Read) -> io::Result<Option<Record>> {
+    let mut body = [0; 2 + FRAME_ROOM];
+    let whole = fill(input, &mut body)?;
+    let [farm, length, room @ ..] = body;
+    let frame = room.split_at_checked(length.into()).filter(|(_, past)| past.iter().all(|byte| *byte == 0));
+    Ok(frame.filter(|_| whole).map(|(frame, _)| Record::Frame(farm, frame.to_vec())))
+}
+
+/// A fresh station of the library.
+pub fn station() -> Vec<u8> {
+    let mut station = vec![0; face::size()];
+    assert_eq!(face::fresh(&mut station), 0, "a station of the library's own size is made fresh");
+    station
+}
+
+/// Plays the record with this number, counted from 1; a frame's is an exchange.
+pub fn play(station: &mut [u8], record: Record, number: u64) -> Option<Exchange> {
+    match record {
+        Record::Cycle(axis, i) => {
+            face::cycle(station, axis.into(), i.flags, i.stw1, i.nsoll, i.nist, i.fault);
+            None
+        }
+        Record::Frame(farm, frame) => {
+            let mut reply = vec![0; REPLY_MIN];
+            let framed = face::frame(station, farm.into(), &frame, &mut reply);
+            reply.truncate(framed.length.into());
+            Some(Exchange { record: number, farm, frame, number: framed.number, stored: framed.stored, reply })
+        }
+    }
+}
+
+#[cfg(test)]
+mod tests {
+    use super::*;
+
+    fn frame_record(length: u8, frame: &[u8]) -> Vec<u8> {
+        let mut record = vec![2, 16, length];
+        record.extend(frame);
+        record.resize(3 + FRAME_ROOM, 0);
+        record
+    }
+
+    #[test]
+    fn a_cycle_a_frame_and_the_end() {
+        let mut journal = vec![1, 3, 2, 0x04, 0x7F, 0x20, 0x00, 0xFF, 0xFF, 0x00, 0x09];
+        journal.extend(frame_record(4, &[0x5E, 0, 47, 0xF0]));
+        let mut input = journal.as_slice();
+        let Ok(Next::Record(Record::Cycle(3, i))) = next(&mut input) else { panic!("no cycle") };
+        assert_eq!((i.flags, i.stw1, i.nsoll, i.nist, i.fault), (2, 0x047F, 0x2000, -1, 9));
+        let Ok(Next::Record(Record::Frame(16, frame))) = next(&mut input) else { panic!("no frame") };
+        assert_eq!(frame, [0x5E, 0, 47, 0xF0]);
+        assert!(matches!(next(&mut input), Ok(Next::End)));
+    }
+
+    #[test]
+    fn bad_records() {
+        let cut = &frame_record(4, &[0x5E, 0, 47, 0xF0])[..246];
+        let bad = [&[0][..], &[3], &[1, 1, 0], &[2], cut, &frame_record(245, &[]), &frame_record(3, &[1, 2, 3, 4])];
+        for mut journal in bad {
+            assert!(matches!(next(&mut journal), Ok(Next::Bad)), "{journal:02X?}");
+        }
+    }
+}
