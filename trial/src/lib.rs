@@ -9,6 +9,7 @@
 
 pub mod blocks;
 pub mod cases;
+pub mod dissected;
 pub mod face;
 pub mod journal;
 pub mod layout;

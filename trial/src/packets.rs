@@ -1,15 +1,15 @@
 //! Exchanges of frames as packets of a capture that Wireshark opens.
 //!
-//! A frame carries a parameter block as DP-V1 does; Wireshark reads such blocks in PROFINET, which carries the same ones as
-//! records. So each exchange becomes two packets of PROFINET's record access (DCE/RPC by UDP, port 34964), a request and its
-//! response. Every number stands high byte first.
+//! A frame carries a parameter block as DP-V1 does; Wireshark reads such blocks in PROFINET, which carries the same ones
+//! as records. So each exchange becomes two packets of PROFINET's record access (DCE/RPC by UDP, port 34964), a request and
+//! its response. Every number stands high byte first.
 //!
 //! | frame | request packet |
 //! |---|---|
 //! | 5F and at least three bytes more | IODWriteReq |
 //! | 5E and at least three bytes more | IODReadReq |
 //! | its slot byte | SlotNumber |
-//! | its index byte | Index: B02F (PROFIdrive, global access) for 47, else the byte itself, which no one reads as PROFIdrive |
+//! | its index byte | Index: B02F (PROFIdrive, global access) for 47, else the byte itself, to Wireshark the user's own data |
 //! | its length byte, right or not | RecordDataLength |
 //! | all that follows, readable or not, as it came | the record's data |
 //! | any other frame (under 4 bytes, other function) | IODWriteReq, Index 7FFF, the whole frame as it came as data |
@@ -19,15 +19,15 @@
 //! | acknowledgement | IODWriteRes, status OK, its length byte in RecordDataLength |
 //! | response | IODReadRes, status OK, the block as data |
 //! | refusal with a code | the reply's own bytes DE or DF, 80 and code as ErrorCode, ErrorDecode and ErrorCode1 |
-//! | refusal without a reply | DE 80 A0 or DF 80 A1 (application: read or write error): on the bus there was no answer |
+//! | refusal without a reply | DE 80 A0 or DF 80 A1 (application: read or write error): the library answered nothing |
 //! | refusal number | ErrorCode2, where the reply itself has 00 |
 //! | elements stored | AdditionalValue1 |
 //!
-//! The farm k (0 to 255, as sent) has the address 10.47.1.k, the hardware address 02:00:00:00:01:k and the SubslotNumber k; the
+//! Farm k (0 to 255, as sent) has the address 10.47.1.k, the hardware address 02:00:00:00:01:k and the SubslotNumber k; the
 //! box has 10.47.0.1 and 02:00:00:00:00:01. The axis that a block names is Wireshark's DO.
 //!
-//! Cycles are no frames and are not in a capture. Times are made up: the record with number n of a journal, cycles counted too, is
-//! sent n milliseconds after the start of 1970 and answered half a millisecond later; n is the DCE/RPC sequence number too, and
+//! Cycles are no frames and are not in a capture. Times are made up: record n of a journal, cycles counted too, is sent n
+//! milliseconds after the start of 1970 and answered half a millisecond later. n is also the DCE/RPC sequence number, and
 //! its low 16 bits are the SeqNumber.
 
 use std::io::{self, Write};

@@ -1,0 +1,565 @@
+//! Puts request and response blocks in a capture and compares what Wireshark reads in it with what was meant.
+//!
+//! Usage: `wireshark FOLDER JOURNAL JOURNALS EXAMPLES...`: a folder to write in, a journal, a file of journals in hex and
+//! files of examples. The blocks, and where their meaning comes from:
+//!
+//! - requests of every kind, made up as structures from which their bytes are written, and worked by the library: the
+//!   structure;
+//! - responses of every kind, made up in the same way: the structure;
+//! - the library's own responses, to those requests and to the journals: the twin's answer to the same call, as the twin
+//!   reads it;
+//! - the requests of journals, and the examples with the answers written there: what the twin reads. Nothing here makes
+//!   their bytes, and the twin's reader is neither the library's nor Wireshark's.
+//!
+//! Of each packet these are compared, in their order, and nothing else may stand between them: both checksums and
+//! addresses, both sequence numbers, operation, status, block type, slot, subslot, index, record length, elements stored,
+//! and every PROFIdrive field: reference, identifier, axis, number of parameters; each attribute, number of elements, PNU
+//! and sub-index; each format, number of values and value; each error number. Wireshark may find no fault with the packet.
+//!
+//! Not compared:
+//!
+//! - the sign of a value: Wireshark shows the bytes of a value as a number without one, whatever the format;
+//! - the names that Wireshark gives to numbers: some are its own (error 15 is "Response timeout", where the profile has a
+//!   response that is too long; error 0F is "The text array does not save right", where there is no text);
+//! - what follows an error 23 in a response: to Wireshark it ends the block, and what follows is a "Long frame". Only
+//!   made-up responses have it, the library does not send it; that Wireshark stops there is compared;
+//! - of a block that is not readable, and of a frame whose length byte is wrong: all but the packet's header, since
+//!   Wireshark stops somewhere in it and nothing was meant;
+//! - frames of a farm over 255, which only a caller in C can send: a capture has no place for its number.
+//!
+//! That a mistake would be seen is tried at the end: every byte of some blocks is altered, one in each packet, and each
+//! must be told from what was meant.
+
+#![forbid(unsafe_code)]
+#![deny(warnings)]
+
+use std::fs::{self, File};
+use std::io::BufWriter;
+use std::path::{Path, PathBuf};
+use std::process::ExitCode;
+use trial::cases::{logical_lines, read_bytes, read_cases, Line, Step};
+use trial::dissected::{self, fields_of_request, fields_of_response, Field, FAULT, PROFIDRIVE};
+use trial::journal::{self, Next, Record};
+use trial::layout::{Block, Values};
+use trial::packets::{Capture, Exchange};
+use trial::random::Random;
+use trial::{blocks, parts, words};
+use twin::{Address, Station, AXES, REPLY_MIN};
+
+const SEED: u64 = 11;
+const MADE_UP: usize = 1500;
+/// Differences that are printed.
+const PRINTED: usize = 20;
+
+fn main() -> ExitCode {
+    let arguments: Vec<String> = std::env::args().skip(1).collect();
+    let [folder, journal, journals, examples @ ..] = arguments.as_slice() else {
+        eprintln!("usage: wireshark FOLDER JOURNAL JOURNALS EXAMPLES...");
+        return ExitCode::from(2);
+    };
+    match run(Path::new(folder), journal, journals, examples) {
+        Ok(true) => ExitCode::SUCCESS,
+        Ok(false) => ExitCode::FAILURE,
+        Err(wrong) => {
+            eprintln!("wireshark: {wrong}");
+            ExitCode::from(2)
+        }
+    }
+}
+
+/// Whether all was read as it was meant, and all that was planted was found.
+fn run(folder: &Path, journal: &str, journals: &str, examples: &[String]) -> Result<bool, String> {
+    fs::create_dir_all(folder).map_err(|error| format!("{}: {error}", folder.display()))?;
+    println!("{}", dissected::version()?);
+    let mut bench = Bench::new(folder.join("blocks.pcap"))?;
+    let bytes = fs::read(journal).map_err(|error| format!("{journal}: {error}"))?;
+    bench.journal(journal, &bytes)?;
+    bench.journals(journals)?;
+    for file in examples {
+        bench.examples(file)?;
+    }
+    bench.every_request()?;
+    bench.made_up_requests()?;
+    bench.responses()?;
+    let same = bench.compare()?;
+    Ok(planted(folder.join("planted.pcap"))? && same)
+}
+
+/// What a packet was meant to say.
+struct Meant {
+    what: String,
+    fields: Vec<Field>,
+    /// Whether what follows the header was meant too.
+    whole: bool,
+}
+
+/// What an answer was meant to be.
+struct Answer {
+    number: u8,
+    stored: u16,
+    length: u32,
+    block: Option<Block>,
+}
+
+impl Answer {
+    /// The answer that stands in a reply.
+    fn of(number: u8, stored: u16, reply: &[u8]) -> Answer {
+        match reply {
+            [0x5E, 0, 47, length, block @ ..] if number == 0 => {
+                Answer { number, stored, length: u32::from(*length), block: Block::of_response(block) }
+            }
+            [0x5F, 0, 47, length] if number == 0 => Answer { number, stored, length: u32::from(*length), block: None },
+            _ => Answer { number, stored, length: 0, block: None },
+        }
+    }
+
+    /// The status, by the table of refusals.
+    fn status(&self, reads: bool) -> [Field; 4] {
+        let code = match self.number {
+            0 => 0,
+            5 => 0xB2,
+            6 => 0xB0,
+            7 => 0xB1,
+            8 => 0xB5,
+            9 => 0xB7,
+            10 => 0xB8,
+            11 => 0xB6,
+            _ if reads => 0xA0,
+            _ => 0xA1,
+        };
+        let (function, decode) = match (self.number, reads) {
+            (0, _) => (0, 0),
+            (_, true) => (0xDE, 0x80),
+            (_, false) => (0xDF, 0x80),
+        };
+        let names = ["pn_io.error_code", "pn_io.error_decode", "pn_io.error_code1", "pn_io.error_code2"];
+        let numbers = [function, decode, code, self.number.into()];
+        std::array::from_fn(|at| (names[at], numbers[at]))
+    }
+}
+
+/// A capture with what its packets mean, written from a station of the library with the twin beside it.
+struct Bench {
+    path: PathBuf,
+    capture: Capture<BufWriter<File>>,
+    meant: Vec<Meant>,
+    records: u64,
+    requests: usize,
+    responses: usize,
+    left_out: usize,
+    library: Vec<u8>,
+    twin: Station,
+}
+
+impl Bench {
+    fn new(path: PathBuf) -> Result<Bench, String> {
+        let file = File::create(&path).map_err(|error| format!("{}: {error}", path.display()))?;
+        let capture = Capture::new(BufWriter::new(file)).map_err(|error| error.to_string())?;
+        let (library, twin) = (journal::station(), Station::fresh());
+        Ok(Bench {
+            path,
+            capture,
+            meant: Vec::new(),
+            records: 0,
+            requests: 0,
+            responses: 0,
+            left_out: 0,
+            library,
+            twin,
+        })
+    }
+
+    /// Adds an exchange whose block and answer were meant so.
+    fn add(&mut self, what: &str, exchange: Exchange, block: Option<&Block>, answer: &Answer) -> Result<(), String> {
+        self.records += 1;
+        let exchange = Exchange { record: self.records, ..exchange };
+        self.capture.add(&exchange).map_err(|error| error.to_string())?;
+        self.requests += usize::from(block.is_some());
+        self.responses += usize::from(answer.block.is_some());
+        let what = format!("{what}, farm {}", exchange.farm);
+        self.meant.push(request_meant(&what, &exchange, block));
+        self.meant.push(response_meant(&what, &exchange, answer));
+        Ok(())
+    }
+
+    /// Adds a frame that comes as bytes, with the answer that stands in a reply.
+    fn add_bytes(&mut self, what: &str, exchange: Exchange, answer: &Answer) -> Result<(), String> {
+        let block = match exchange.frame.as_slice() {
+            [0x5F, _, 47, length, block @ ..] if usize::from(*length) == block.len() => Block::of_request(block),
+            _ => None,
+        };
+        self.add(what, exchange, block.as_ref(), answer)
+    }
+
+    /// Plays a record on the library and on the twin: the library's exchange and the twin's answer.
+    fn play(&mut self, record: Record) -> Option<(Exchange, Answer)> {
+        let answer = match &record {
+            Record::Cycle(axis, i) => {
+                self.twin.cycle((*axis).into(), i.flags, i.stw1, i.nsoll, i.nist, i.fault);
+                None
+            }
+            Record::Frame(farm, frame) => {
+                let mut reply = [0; REPLY_MIN];
+                let framed = self.twin.frame((*farm).into(), frame, &mut reply);
+                Some(Answer::of(framed.number, framed.stored, &reply[..framed.length.into()]))
+            }
+        };
+        journal::play(&mut self.library, record, 0).zip(answer)
+    }
+
+    fn journal(&mut self, what: &str, mut bytes: &[u8]) -> Result<(), String> {
+        (self.library, self.twin) = (journal::station(), Station::fresh());
+        while let Next::Record(record) = journal::next(&mut bytes).map_err(|error| error.to_string())? {
+            if let Some((exchange, answer)) = self.play(record) {
+                self.add_bytes(what, exchange, &answer)?;
+            }
+        }
+        Ok(())
+    }
+
+    /// The journals of a file in hex, which ends each with a blank line.
+    fn journals(&mut self, file: &str) -> Result<(), String> {
+        let text = fs::read_to_string(file).map_err(|error| format!("{file}: {error}"))?;
+        let (mut name, mut bytes) = (String::new(), Vec::new());
+        for (number, line) in logical_lines(&text) {
+            match line.split_once(' ') {
+                Some(("case", case)) => name = case.to_string(),
+                Some(("journal", hex)) => {
+                    let words: Vec<&str> = hex.split_whitespace().collect();
+                    bytes.extend(read_bytes(&words).map_err(|wrong| format!("{file}: line {number}: {wrong}"))?);
+                }
+                Some(_) => {}
+                None => self.journal(&name, &std::mem::take(&mut bytes))?,
+            }
+        }
+        self.journal(&name, &bytes)
+    }
+
+    fn examples(&mut self, file: &str) -> Result<(), String> {
+        let text = fs::read_to_string(file).map_err(|error| format!("{file}: {error}"))?;
+        for case in read_cases(&text).map_err(|wrong| format!("{file}: {wrong}"))? {
+            self.steps(&case.name, &case.steps)?;
+        }
+        Ok(())
+    }
+
+    fn steps(&mut self, case: &str, steps: &[Line]) -> Result<(), String> {
+        for line in steps {
+            match &line.step {
+                Step::Loop { body, .. } => self.steps(case, body)?,
+                Step::Frame { farm, frame, wanted } => {
+                    let (number, stored, reply) = (wanted.number, wanted.stored, wanted.reply.clone());
+                    let answer = Answer::of(number, stored, &reply);
+                    let Ok(farm) = u8::try_from(*farm) else {
+                        self.left_out += 1;
+                        continue;
+                    };
+                    let exchange = Exchange { record: 0, farm, frame: frame.clone(), number, stored, reply };
+                    self.add_bytes(case, exchange, &answer)?;
+                }
+                _ => {}
+            }
+        }
+        Ok(())
+    }
+
+    /// Has the library work a request, and fetches the response.
+    fn request(&mut self, what: &str, farm: u8, block: &Block) -> Result<(), String> {
+        let bytes = block.bytes();
+        let read = Block::of_request(&bytes).map(|block| fields_of_request(&block));
+        if read != Some(fields_of_request(block)) {
+            return Err(format!("{what}: the twin reads {bytes:02X?} otherwise than {block:?}"));
+        }
+        for frame in [blocks::framed(&bytes), vec![0x5E, 0, 47, 240]] {
+            let Some((exchange, answer)) = self.play(Record::Frame(farm, frame)) else { return Ok(()) };
+            let (block, refused) = ((exchange.frame[0] == 0x5F).then_some(block), answer.number != 0);
+            self.add(what, exchange, block, &answer)?;
+            if refused {
+                break;
+            }
+        }
+        Ok(())
+    }
+
+    /// Every format, attribute and number of parameters, and every byte where a byte may be any.
+    fn every_request(&mut self) -> Result<(), String> {
+        for block in changes_of_every_format() {
+            self.request("a change of every format", block.axis, &block)?;
+        }
+        for byte in 0..=255 {
+            let block = any_byte(byte);
+            let farm = if (1..=AXES as u8).contains(&block.axis) { block.axis } else { 1 };
+            self.request("every byte", farm, &block)?;
+        }
+        for count in 1..=39 {
+            let addresses = (0..count).map(|at| Address { pnu: 930 + at, ..address(0x10, 1) }).collect();
+            let block = Block { count: count as u8, addresses, ..change(Vec::new()) };
+            self.request("every number of parameters", block.axis, &Block { identifier: 0x01, ..block })?;
+        }
+        Ok(())
+    }
+
+    /// Blocks that chance makes, with cycles between them so that the values move.
+    fn made_up_requests(&mut self) -> Result<(), String> {
+        let mut random = Random::new(SEED);
+        for _ in 0..MADE_UP {
+            let index = random.below(AXES);
+            let axis = index as u8 + 1;
+            let inputs = words::inputs(&mut random, &self.twin.axes[index]);
+            self.play(Record::Cycle(axis, inputs));
+            let (_, block) = blocks::block(&mut random, axis);
+            if Block::of_request(&block.bytes()).is_some() {
+                self.request("made up", axis, &block)?;
+            }
+        }
+        Ok(())
+    }
+
+    /// Responses that no request need have had.
+    fn responses(&mut self) -> Result<(), String> {
+        let mut random = Random::new(SEED);
+        let errors = (0..=0xFF).chain([0x100, 0x7FFF, 0x8000, 0xFFFF]);
+        let errors = errors.map(|number| response(0x81, vec![any_value(), Values::error(number)]));
+        let failed = (0..=0x30).map(|number| response(0x82, vec![Values::zero(), Values::error(number)]));
+        let changed = (1..=39).map(|count| Block { count, ..response(0x02, Vec::new()) });
+        let mut blocks: Vec<Block> = errors.chain(failed).chain(changed).collect();
+        blocks.extend((0..MADE_UP).map(|at| parts::response(&mut random, (at % 256) as u8)));
+        for block in blocks {
+            let (exchange, answer) = fetched(&block, &block.bytes());
+            self.add("a made-up response", exchange, None, &answer)?;
+        }
+        Ok(())
+    }
+
+    /// Lets Wireshark read the capture; the differences of each packet.
+    fn differences(self) -> Result<Vec<(Meant, Vec<String>)>, String> {
+        self.capture.finish().map_err(|error| error.to_string())?;
+        let packets = dissected::read(&self.path)?;
+        if packets.len() != self.meant.len() {
+            return Err(format!("Wireshark sees {} packets of {}", packets.len(), self.meant.len()));
+        }
+        Ok(self.meant.into_iter().zip(packets).map(|(meant, read)| compare(meant, read)).collect())
+    }
+
+    /// Prints the differences and what was compared; whether there was none.
+    fn compare(self) -> Result<bool, String> {
+        let (requests, responses, left_out) = (self.requests, self.responses, self.left_out);
+        let compared = self.differences()?;
+        let fields: usize = compared.iter().map(|(meant, _)| meant.fields.len()).sum();
+        let headers = compared.iter().filter(|(meant, _)| !meant.whole).count();
+        let mut found = 0;
+        for (number, (meant, differences)) in compared.iter().enumerate() {
+            for difference in differences {
+                found += 1;
+                if found <= PRINTED {
+                    println!("packet {} ({}): {difference}", number + 1, meant.what);
+                }
+            }
+        }
+        println!("{left_out} frames of farms over 255 left out; {headers} packets compared by their header alone");
+        println!(
+            "{} packets with {requests} request and {responses} response blocks: {fields} fields compared, {found} differences",
+            compared.len(),
+        );
+        Ok(found == 0)
+    }
+}
+
+/// One byte of a block altered in each packet: whether all were found.
+fn planted(path: PathBuf) -> Result<bool, String> {
+    let mut bench = Bench::new(path)?;
+    for block in changes_of_every_format().iter().rev().take(3) {
+        let bytes = block.bytes();
+        for at in 0..bytes.len() {
+            let frame = blocks::framed(&altered(&bytes, at));
+            let reply = vec![0x5F, 0, 47, bytes.len() as u8];
+            let answer = Answer::of(0, 0, &reply);
+            let exchange = Exchange { record: 0, farm: 1, frame, number: 0, stored: 0, reply };
+            bench.add(&format!("byte {at} altered"), exchange, Some(block), &answer)?;
+        }
+    }
+    let failed = vec![any_value(), Values::error(0x16)];
+    let every_size = [(0x41, 1), (0x42, 2), (0x43, 4)].map(|(format, size)| values(format, size, 3));
+    for block in [
+        response(0x01, every_size.to_vec()),
+        response(0x02, Vec::new()),
+        response(0x81, failed),
+        response(0x82, vec![Values::zero(), Values::error(0x02)]),
+    ] {
+        let bytes = block.bytes();
+        for at in 0..bytes.len() {
+            let (exchange, answer) = fetched(&block, &altered(&bytes, at));
+            bench.add(&format!("byte {at} altered"), exchange, None, &answer)?;
+        }
+    }
+    found_all(bench.differences()?)
+}
+
+/// Of the two packets of each exchange one has a byte altered, and the other none.
+fn found_all(compared: Vec<(Meant, Vec<String>)>) -> Result<bool, String> {
+    let found: Vec<usize> =
+        compared.chunks(2).map(|pair| pair.iter().filter(|(_, found)| !found.is_empty()).count()).collect();
+    for (pair, _) in compared.chunks(2).zip(&found).filter(|(_, found)| **found != 1) {
+        println!("planted and not found: {}", pair[0].0.what);
+    }
+    let all = found.iter().filter(|found| **found == 1).count();
+    if let Some((meant, differences)) = compared.iter().find(|(_, differences)| !differences.is_empty()) {
+        println!("planted, as an example: {}: {}", meant.what, differences[0]);
+    }
+    println!("{} mistakes planted, each one byte of a block: {all} found", found.len());
+    Ok(all == found.len())
+}
+
+fn altered(bytes: &[u8], at: usize) -> Vec<u8> {
+    let mut bytes = bytes.to_vec();
+    bytes[at] ^= 1;
+    bytes
+}
+
+/// A fetch that is answered with these bytes, where this block was meant.
+fn fetched(block: &Block, bytes: &[u8]) -> (Exchange, Answer) {
+    let reply = [&[0x5E, 0, 47, bytes.len() as u8], bytes].concat();
+    let answer = Answer { number: 0, stored: 0, length: bytes.len() as u32, block: Some(block.clone()) };
+    (Exchange { record: 0, farm: 1, frame: vec![0x5E, 0, 47, 240], number: 0, stored: 0, reply }, answer)
+}
+
+// ---- Blocks ----
+
+fn address(attribute: u8, elements: u8) -> Address {
+    Address { attribute, elements, pnu: 30001, sub_index: 0 }
+}
+
+/// A change of axis 1 with an address for each value block.
+fn change(values: Vec<Values>) -> Block {
+    let addresses = values.iter().map(|values| address(0x10, values.values.len() as u8)).collect();
+    Block { reference: 9, identifier: 0x02, axis: 1, count: values.len() as u8, addresses, values }
+}
+
+fn response(identifier: u8, values: Vec<Values>) -> Block {
+    Block { reference: 200, identifier, axis: 16, count: values.len() as u8, addresses: Vec::new(), values }
+}
+
+/// Values that differ in every byte.
+fn values(format: u8, size: usize, count: u32) -> Values {
+    let value = |at: u32| (0xF1E2_D3C4_u32.wrapping_sub(0x0305_0709 * at)) >> (32 - 8 * size);
+    Values { format, size, values: (0..count).map(value).collect() }
+}
+
+fn any_value() -> Values {
+    values(0x43, 4, 1)
+}
+
+/// Each format alone, with no value and with some; then all in one block, each of them first once.
+fn changes_of_every_format() -> Vec<Block> {
+    let formats = [(0x41, 1), (2, 1), (5, 1), (0x42, 2), (3, 2), (6, 2), (0x43, 4), (4, 4), (7, 4)];
+    let mut blocks = Vec::new();
+    for (format, size) in formats {
+        blocks.extend([0, 1, 2, 3, 4, 55].map(|count| change(vec![values(format, size, count)])));
+    }
+    for first in 0..formats.len() {
+        let order = formats.iter().cycle().skip(first).take(formats.len()).enumerate();
+        blocks.push(change(order.map(|(at, (format, size))| values(*format, *size, at as u32 % 4)).collect()));
+    }
+    blocks
+}
+
+/// A request in which every field that is a byte has another one for each byte.
+fn any_byte(byte: u8) -> Block {
+    let word = |factor: u16| u16::from(byte).wrapping_mul(factor).rotate_left(3);
+    let first = Address { attribute: byte, elements: !byte, pnu: word(257), sub_index: word(251) };
+    let second = Address { attribute: byte ^ 0x0F, elements: byte, pnu: !word(241), sub_index: 0xFFFF };
+    let addresses = vec![first, second];
+    Block { reference: byte.max(1), identifier: 0x01, axis: byte ^ 0x05, count: 2, addresses, values: Vec::new() }
+}
+
+// ---- What packets mean ----
+
+/// The fields of a packet up to its record's data, or up to the status that ends the header of a write's answer.
+fn header_meant(exchange: &Exchange, from_farm: bool, status: &[Field], length: u32, stored: &[Field]) -> Vec<Field> {
+    let farm = u32::from(exchange.farm);
+    let (slot, index) = match exchange.frame.as_slice() {
+        [0x5E | 0x5F, slot, 47, _, ..] => (*slot, 0xB02F),
+        [0x5E | 0x5F, slot, index, _, ..] => (*slot, u32::from(*index)),
+        _ => (0, 0x7FFF),
+    };
+    let reads = reads(&exchange.frame);
+    let (farm_address, box_address) = (0x0A2F_0100 + farm, 0x0A2F_0001);
+    let (from, to) = if from_farm { (farm_address, box_address) } else { (box_address, farm_address) };
+    let block_type = if from_farm { 0x0008 } else { 0x8008 } + u32::from(reads);
+    let mut fields = vec![
+        ("ip.checksum.status", 1),
+        ("ip.src", from),
+        ("ip.dst", to),
+        ("udp.checksum.status", 1),
+        ("dcerpc.dg_seqnum", exchange.record as u32),
+        ("pn_io.opnum", if reads { 2 } else { 3 }),
+    ];
+    fields.extend(status);
+    fields.extend([
+        ("pn_io.block_type", block_type),
+        ("pn_io.seq_number", exchange.record as u32 & 0xFFFF),
+        ("pn_io.slot_nr", slot.into()),
+        ("pn_io.subslot_nr", farm),
+        ("pn_io.index", index),
+        ("pn_io.record_data_length", length),
+    ]);
+    fields.extend(stored);
+    fields
+}
+
+/// Whether the frame is a read; what is neither stands as a write.
+fn reads(frame: &[u8]) -> bool {
+    frame.len() >= 4 && frame[0] == 0x5E
+}
+
+fn request_meant(what: &str, exchange: &Exchange, block: Option<&Block>) -> Meant {
+    let (length, meant) = match exchange.frame.as_slice() {
+        [0x5E, _, _, length, data @ ..] => (usize::from(*length), data.is_empty()),
+        [0x5F, _, 47, length, ..] => (usize::from(*length), block.is_some()),
+        [0x5F, _, _, length, data @ ..] => (usize::from(*length), usize::from(*length) == data.len()),
+        frame => (frame.len(), true),
+    };
+    let mut fields = header_meant(exchange, true, &[], length as u32, &[]);
+    fields.extend(block.map(fields_of_request).unwrap_or_default());
+    Meant { what: format!("{what}, request"), fields, whole: meant }
+}
+
+fn response_meant(what: &str, exchange: &Exchange, answer: &Answer) -> Meant {
+    let reads = reads(&exchange.frame);
+    let status = answer.status(reads);
+    let stored = [("pn_io.add_val1", answer.stored.into())];
+    let mut fields = header_meant(exchange, false, &status, answer.length, &stored);
+    if !reads {
+        fields.extend(status);
+    }
+    fields.extend(answer.block.as_ref().map(fields_of_response).unwrap_or_default());
+    Meant { what: format!("{what}, response"), fields, whole: true }
+}
+
+/// Each field that was read otherwise than it was meant.
+fn compare(meant: Meant, mut read: Vec<Field>) -> (Meant, Vec<String>) {
+    if !meant.whole {
+        read.retain(|(name, _)| !name.starts_with(PROFIDRIVE) && *name != FAULT);
+        // Bytes behind a read are to Wireshark one more block header.
+        read.truncate(meant.fields.len());
+    }
+    let mut differences = Vec::new();
+    for at in 0..meant.fields.len().max(read.len()) {
+        match (meant.fields.get(at), read.get(at)) {
+            (Some(meant), Some(read)) if meant == read => {}
+            (Some(meant), Some(read)) if meant.0 == read.0 => {
+                differences.push(format!("read {}, meant {:#X}", told(Some(read)), meant.1));
+            }
+            (meant, read) => {
+                differences.push(format!("field {}: read {}, meant {}", at + 1, told(read), told(meant)));
+                // From here on fields stand beside others than their own.
+                break;
+            }
+        }
+    }
+    (meant, differences)
+}
+
+fn told(field: Option<&Field>) -> String {
+    field.map_or("nothing".to_string(), |(name, number)| format!("{name} {number:#X}"))
+}
