@@ -7,7 +7,8 @@ use std::io::{self, ErrorKind, Read};
 use twin::REPLY_MIN;
 
 const CYCLE_BODY: usize = 10;
-const FRAME_ROOM: usize = 244;
+/// Bytes that a record has for its frame.
+pub const FRAME_ROOM: usize = 244;
 
 /// A record.
 #[derive(Clone, Debug)]

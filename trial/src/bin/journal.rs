@@ -4,11 +4,10 @@
 #![deny(warnings)]
 
 use std::io::{self, BufWriter, Write};
+use trial::journal::FRAME_ROOM;
 use trial::random::Random;
 use trial::{blocks, words};
 use twin::{Station, AXES};
-
-const FRAME_ROOM: usize = 244;
 
 fn main() -> io::Result<()> {
     let records = std::env::args().nth(1).and_then(|n| n.parse().ok()).unwrap_or(10_000);

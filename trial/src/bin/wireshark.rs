@@ -81,7 +81,7 @@ fn run(folder: &Path, journal: &str, journals: &str, examples: &[String]) -> Res
     bench.every_request()?;
     bench.made_up_requests()?;
     bench.responses()?;
-    let same = bench.compare()?;
+    let same = bench.report()?;
     Ok(planted(folder.join("planted.pcap"))? && same)
 }
 
@@ -342,7 +342,7 @@ impl Bench {
     }
 
     /// Prints the differences and what was compared; whether there was none.
-    fn compare(self) -> Result<bool, String> {
+    fn report(self) -> Result<bool, String> {
         let (requests, responses, left_out) = (self.requests, self.responses, self.left_out);
         let compared = self.differences()?;
         let fields: usize = compared.iter().map(|(meant, _)| meant.fields.len()).sum();
@@ -392,22 +392,22 @@ fn planted(path: PathBuf) -> Result<bool, String> {
             bench.add(&format!("byte {at} altered"), exchange, None, &answer)?;
         }
     }
-    found_all(bench.differences()?)
+    bench.differences().map(found_all)
 }
 
 /// Of the two packets of each exchange one has a byte altered, and the other none.
-fn found_all(compared: Vec<(Meant, Vec<String>)>) -> Result<bool, String> {
+fn found_all(compared: Vec<(Meant, Vec<String>)>) -> bool {
     let found: Vec<usize> =
         compared.chunks(2).map(|pair| pair.iter().filter(|(_, found)| !found.is_empty()).count()).collect();
-    for (pair, _) in compared.chunks(2).zip(&found).filter(|(_, found)| **found != 1) {
-        println!("planted and not found: {}", pair[0].0.what);
+    for (pair, _) in compared.chunks(2).zip(&found).filter(|(_, found)| **found != 1).take(PRINTED) {
+        println!("planted and not singled out: {}", pair[0].0.what);
     }
     let all = found.iter().filter(|found| **found == 1).count();
     if let Some((meant, differences)) = compared.iter().find(|(_, differences)| !differences.is_empty()) {
         println!("planted, as an example: {}: {}", meant.what, differences[0]);
     }
     println!("{} mistakes planted, each one byte of a block: {all} found", found.len());
-    Ok(all == found.len())
+    all == found.len()
 }
 
 fn altered(bytes: &[u8], at: usize) -> Vec<u8> {
