@@ -299,7 +299,7 @@ impl Bench {
         Ok(())
     }
 
-    /// Blocks that chance makes, with cycles between them so that the values move.
+    /// Readable blocks that chance makes, with cycles between them so that the values move.
     fn made_up_requests(&mut self) -> Result<(), String> {
         let mut random = Random::new(SEED);
         for _ in 0..MADE_UP {
