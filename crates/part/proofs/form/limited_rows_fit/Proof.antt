@@ -57,7 +57,7 @@ limits-fit-requires-5 : tie.Need-limits-fit-requires-5
 limits-fit-requires-5 c κs = search needs
 
 returns-5 : tie.Need-returns-5
-unfolding rows rowAt
+unfolding rows rowAt limitsFit
 returns-5 c =
     let p = now (c .before .before .before .before .before .before .before .before .before .before .args .part) in
     let e1 = sym (c .before .before .before .before .before .before .before .before .limits-fit .ensures) ∙ not-false _ (c .before .before .before .before .before .before .before .if1 .left) in
