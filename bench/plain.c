@@ -1,0 +1,544 @@
+/* The station of document 01 in plain C, on the same memory as the library: a yardstick for `./llinkhiro bench`, not a product.
+ * The face is that of llinkhiro.h under other names, so that one program can hold both. */
+#include "llinkhiro.h"
+
+#include <stdbool.h>
+#include <string.h>
+
+enum { AXES = 16, SITUATIONS = 4, CODES = 8, BLOCK = 240, HEADER = 4, ADDRESS = 6, PARAMETERS = 39, REPLY = HEADER + BLOCK };
+enum { S1 = 1, S2 = 2, S3 = 3, S4 = 4, S51 = 51, S52 = 52 };
+enum { READ = 0x5E, WRITE = 0x5F, SLOT = 0, INDEX = 47 };
+enum { REQUEST = 0x01, CHANGE = 0x02, FAILED = 0x80 };
+enum { SIZE_1 = 0x41, SIZE_2 = 0x42, SIZE_4 = 0x43, NOTHING = 0x40, ERROR = 0x44 };
+enum type { I16 = 3, I32 = 4, U8 = 5, U16 = 6 };
+
+/* Bytes alone, high byte first: no padding and any alignment. */
+struct part {
+    uint8_t p930[2], p944[2], p947[SITUATIONS][CODES][2], p965[2], p9900[2], p9901[8][2];
+    uint8_t p10100[2], p10101[2], p10102[2], p10103[2], p10111[2];
+    uint8_t p30001[4][2], p30002[2], p30003[2], p30004[2][4];
+    uint8_t state, effective[2], length, response[BLOCK];
+};
+
+_Static_assert(sizeof(struct part) == 362, "the library's layout");
+
+static const uint8_t zeros[BLOCK];
+
+static unsigned word(const uint8_t b[2])
+{
+    return (unsigned)b[0] << 8 | b[1];
+}
+
+static int16_t signed_word(const uint8_t b[2])
+{
+    return (int16_t)word(b);
+}
+
+static int32_t signed_double(const uint8_t b[4])
+{
+    return (int32_t)((uint32_t)word(b) << 16 | word(b + 2));
+}
+
+static void put_word(uint8_t b[2], unsigned n)
+{
+    b[0] = (uint8_t)(n >> 8);
+    b[1] = (uint8_t)n;
+}
+
+static bool zero(const uint8_t *b, size_t len)
+{
+    return memcmp(b, zeros, len) == 0;
+}
+
+/* ---- Parameters ---------------------------------------------------------------------------------------------- */
+
+struct parameter {
+    int32_t low, high;
+    uint16_t at;
+    uint8_t type;
+    uint8_t elements; /* 0: simple */
+    bool writable;
+};
+
+#define FIXED(name, type, elements) { 0, 0, offsetof(struct part, name), type, elements, false }
+#define LIMITED(name, type, elements, low, high) { low, high, offsetof(struct part, name), type, elements, true }
+
+static const struct parameter *find(unsigned pnu)
+{
+    static const struct parameter table[] = {
+        FIXED(p930, U16, 0),
+        FIXED(p944, U16, 0),
+        FIXED(p947, U16, SITUATIONS * CODES),
+        FIXED(p965, U8, 2),
+        LIMITED(p9900, U16, 0, 0, 65535),
+        LIMITED(p9901, U16, 8, 0, 65535),
+        FIXED(p10100, U16, 0),
+        FIXED(p10101, I16, 0),
+        FIXED(p10102, U16, 0),
+        FIXED(p10103, I16, 0),
+        LIMITED(p10111, U16, 0, 1, 60000),
+        LIMITED(p30001, U16, 4, 0, 3000),
+        LIMITED(p30002, U16, 0, 0, 16384),
+        LIMITED(p30003, U16, 0, 0, 32767),
+        LIMITED(p30004, I32, 2, -100000, 100000),
+    };
+
+    switch (pnu) {
+    case 930: return &table[0];
+    case 944: return &table[1];
+    case 947: return &table[2];
+    case 965: return &table[3];
+    case 9900: return &table[4];
+    case 9901: return &table[5];
+    case 10100: return &table[6];
+    case 10101: return &table[7];
+    case 10102: return &table[8];
+    case 10103: return &table[9];
+    case 10111: return &table[10];
+    case 30001: return &table[11];
+    case 30002: return &table[12];
+    case 30003: return &table[13];
+    case 30004: return &table[14];
+    default: return NULL;
+    }
+}
+
+static unsigned size_of(const struct parameter *p)
+{
+    return p->type == U8 ? 1 : p->type == I32 ? 4 : 2;
+}
+
+static unsigned size_code(const struct parameter *p)
+{
+    return p->type == U8 ? SIZE_1 : p->type == I32 ? SIZE_4 : SIZE_2;
+}
+
+/* ---- A part -------------------------------------------------------------------------------------------------- */
+
+static bool situation_formed(const uint8_t codes[CODES][2])
+{
+    unsigned used = 0;
+
+    for (; used < CODES && word(codes[used]) != 0; used++)
+        for (unsigned i = 0; i < used; i++)
+            if (word(codes[i]) == word(codes[used]))
+                return false;
+    return zero(codes[0] + 2 * used, 2 * (CODES - used));
+}
+
+/* The bytes of the next block of a response of this kind, after its format and count; -1 where none may stand so. */
+static int item_bytes(unsigned kind, unsigned format, unsigned count)
+{
+    switch (format) {
+    case NOTHING: return kind == (CHANGE | FAILED) && count == 0 ? 0 : -1;
+    case ERROR: return kind != REQUEST && count == 1 ? 2 : -1;
+    case SIZE_1:
+    case SIZE_2:
+    case SIZE_4: return kind != (CHANGE | FAILED) && count > 0 ? (int)(count << (format - SIZE_1)) : -1;
+    default: return -1;
+    }
+}
+
+static bool header_readable(const uint8_t *block, size_t len)
+{
+    return len >= HEADER && len <= BLOCK && block[0] != 0 && block[3] >= 1 && block[3] <= PARAMETERS;
+}
+
+static bool response_readable(const uint8_t *block, size_t len)
+{
+    size_t at = HEADER;
+    bool failed = false;
+
+    if (!header_readable(block, len))
+        return false;
+    unsigned kind = block[1];
+    if (kind == CHANGE)
+        return len == HEADER;
+    if (kind != REQUEST && kind != (REQUEST | FAILED) && kind != (CHANGE | FAILED))
+        return false;
+    for (unsigned left = block[3]; left > 0; left--) {
+        if (len - at < 2)
+            return false;
+        int bytes = item_bytes(kind, block[at], block[at + 1]);
+        if (bytes < 0 || len - at - 2 < (size_t)bytes)
+            return false;
+        failed |= block[at] == ERROR;
+        at += 2 + (size_t)bytes;
+    }
+    return at == len && (kind == REQUEST || failed);
+}
+
+static bool waiting_formed(const struct part *part, unsigned axis)
+{
+    unsigned len = part->length;
+
+    if (len > BLOCK || !zero(part->response + len, BLOCK - len))
+        return false;
+    return len == 0 || (response_readable(part->response, len) && part->response[2] == axis);
+}
+
+static bool limits_formed(const struct part *part)
+{
+    unsigned rpm = word(part->p10111);
+
+    for (unsigned i = 0; i < 4; i++)
+        if (word(part->p30001[i]) > 3000)
+            return false;
+    for (unsigned i = 0; i < 2; i++)
+        if (signed_double(part->p30004[i]) < -100000 || signed_double(part->p30004[i]) > 100000)
+            return false;
+    return rpm >= 1 && rpm <= 60000 && word(part->p30002) <= 16384 && word(part->p30003) <= 32767;
+}
+
+static bool well_formed(const struct part *part, unsigned axis)
+{
+    unsigned s = part->state;
+
+    if (!((s >= S1 && s <= S4) || s == S51 || s == S52))
+        return false;
+    if (word(part->p930) != 1 || part->p965[0] != 3 || part->p965[1] != 41)
+        return false;
+    for (unsigned i = 0; i < SITUATIONS; i++)
+        if (!situation_formed(part->p947[i]))
+            return false;
+    return limits_formed(part) && waiting_formed(part, axis);
+}
+
+/* Refusals 1 and 2; the caller's part where there is none. */
+static unsigned own_part(uint8_t *station, size_t station_len, uint32_t owner, struct part **part)
+{
+    if (owner < 1 || owner > AXES)
+        return 1;
+    if (station_len != AXES * sizeof **part)
+        return 2;
+    *part = (struct part *)station + (owner - 1);
+    return well_formed(*part, owner) ? 0 : 2;
+}
+
+size_t plain_size(void)
+{
+    return AXES * sizeof(struct part);
+}
+
+uint8_t plain_fresh(uint8_t *station, size_t station_len)
+{
+    if (station_len != plain_size())
+        return 2;
+    memset(station, 0, station_len);
+    for (struct part *part = (struct part *)station; part < (struct part *)station + AXES; part++) {
+        put_word(part->p930, 1);
+        part->p965[0] = 3;
+        part->p965[1] = 41;
+        put_word(part->p10102, 0x0340);
+        put_word(part->p10111, 1500);
+        put_word(part->p30002, 164);
+        put_word(part->p30003, 16384);
+        part->state = S1;
+    }
+    return 0;
+}
+
+/* ---- The cycle ----------------------------------------------------------------------------------------------- */
+
+static bool bit(unsigned word, unsigned number)
+{
+    return word >> number & 1;
+}
+
+static void count_fault(struct part *part)
+{
+    put_word(part->p944, word(part->p944) + 1);
+}
+
+/* Step 2. */
+static void acknowledge(struct part *part, unsigned stw1, uint16_t fault)
+{
+    if (!bit(stw1, 7) || bit(word(part->p10100), 7) || fault != 0 || word(part->p947[0][0]) == 0)
+        return;
+    memmove(part->p947[1], part->p947[0], (SITUATIONS - 1) * sizeof part->p947[0]);
+    memset(part->p947[0], 0, sizeof part->p947[0]);
+    count_fault(part);
+}
+
+/* Step 3. */
+static void record_fault(struct part *part, uint16_t fault)
+{
+    for (unsigned i = 0; fault != 0 && i < CODES; i++) {
+        unsigned code = word(part->p947[0][i]);
+
+        if (code == fault)
+            return;
+        if (code == 0) {
+            put_word(part->p947[0][i], fault);
+            count_fault(part);
+            return;
+        }
+    }
+}
+
+/* Step 4 without a fault. */
+static unsigned next_state(unsigned state, unsigned w, bool standstill)
+{
+    bool b0 = bit(w, 0), b1 = bit(w, 1), b2 = bit(w, 2), b3 = bit(w, 3);
+
+    switch (state) {
+    case S1: return !b0 && b1 && b2 ? S2 : S1;
+    case S2: return !b1 || !b2 ? S1 : b0 ? S3 : S2;
+    case S3: return !b1 || !b2 ? S1 : !b0 ? S2 : b3 ? S4 : S3;
+    case S4: return !b1 ? S1 : !b2 ? S52 : !b0 ? S51 : !b3 ? S3 : S4;
+    case S51: return !b1 ? S1 : !b2 ? S52 : b0 && b3 ? S4 : standstill || !b3 ? S2 : S51;
+    default: return !b1 || standstill || !b3 ? S1 : S52;
+    }
+}
+
+/* Bits 0, 1, 2 and 6 of the status word. */
+static unsigned state_bits(unsigned state)
+{
+    return state == S1 ? 0x40 : state == S2 ? 0x01 : state == S4 ? 0x07 : 0x03;
+}
+
+static int distance(int a, int b)
+{
+    return a < b ? b - a : a - b;
+}
+
+/* Steps 1 to 7. */
+static struct llinkhiro_cycled cycled(struct part *part, unsigned flags, uint16_t stw1, int16_t nsoll, int16_t nist, uint16_t fault)
+{
+    unsigned w = bit(stw1, 10) ? stw1 : word(part->p10100);
+    int16_t setpoint = bit(stw1, 10) ? nsoll : signed_word(part->p10101), effective = 0;
+
+    acknowledge(part, w, fault);
+    record_fault(part, fault);
+    bool faulted = word(part->p947[0][0]) != 0;
+    unsigned state = faulted ? S1 : next_state(part->state, w, bit(flags, 0));
+    if (state == S4 && bit(w, 4) && bit(w, 6))
+        effective = bit(w, 5) ? setpoint : signed_word(part->effective);
+    bool near = distance(effective, nist) <= (int)word(part->p30002);
+    bool fast = distance(nist, 0) >= (int)word(part->p30003);
+    unsigned status = state_bits(state) | faulted << 3 | (w & 0x06) << 3 | bit(flags, 1) << 7 | near << 8 | 1 << 9 | fast << 10;
+    part->state = (uint8_t)state;
+    put_word(part->effective, (uint16_t)effective);
+    put_word(part->p10100, w);
+    put_word(part->p10101, (uint16_t)setpoint);
+    put_word(part->p10102, status);
+    put_word(part->p10103, (uint16_t)nist);
+    int32_t rpm = effective * (int32_t)word(part->p10111) / 16384;
+    return (struct llinkhiro_cycled){ rpm, (uint16_t)status, (uint8_t)state, 0 };
+}
+
+struct llinkhiro_cycled plain_cycle(uint8_t *station, size_t station_len, uint32_t axis, uint32_t flags, uint16_t stw1,
+                                    int16_t nsoll, int16_t nist, uint16_t fault)
+{
+    struct part *part;
+    unsigned number = own_part(station, station_len, axis, &part);
+
+    if (number == 0 && flags > 3)
+        number = 12;
+    if (number != 0)
+        return (struct llinkhiro_cycled){ 0, 0, 0, (uint8_t)number };
+    return cycled(part, flags, stw1, nsoll, nist, fault);
+}
+
+/* ---- Requests ------------------------------------------------------------------------------------------------ */
+
+static unsigned format_size(unsigned format)
+{
+    switch (format) {
+    case SIZE_1: case 2: case 5: return 1;
+    case SIZE_2: case 3: case 6: return 2;
+    case SIZE_4: case 4: case 7: return 4;
+    default: return 0;
+    }
+}
+
+static bool request_readable(const uint8_t *block, size_t len)
+{
+    if (!header_readable(block, len) || (block[1] != REQUEST && block[1] != CHANGE))
+        return false;
+    size_t at = HEADER + (size_t)block[3] * ADDRESS;
+    for (unsigned left = block[1] == CHANGE ? block[3] : 0; left > 0; left--) {
+        if (at + 2 > len || format_size(block[at]) == 0)
+            return false;
+        at += 2 + format_size(block[at]) * block[at + 1];
+    }
+    return at == len;
+}
+
+/* The elements that an address names, of the parameter at their first byte. */
+struct place {
+    const struct parameter *parameter;
+    unsigned elements;
+    size_t at;
+};
+
+/* The rules for every address: its place, or -1 where there is none, or the error. */
+static int locate(const uint8_t address[ADDRESS], struct place *place)
+{
+    const struct parameter *p = find(word(address + 2));
+    unsigned elements = address[1], first = word(address + 4);
+
+    if (p == NULL)
+        return 0x00;
+    if (address[0] != 0x10)
+        return address[0] == 0x20 ? 0x09 : address[0] == 0x30 ? 0x0F : 0x16;
+    if (p->elements == 0 && (first != 0 || elements > 1))
+        return 0x04;
+    if (p->elements != 0 && elements == 0)
+        return 0x16;
+    if (p->elements != 0 && first + elements > p->elements)
+        return 0x03;
+    *place = (struct place){ p, elements == 0 ? 1 : elements, p->at + (size_t)first * size_of(p) };
+    return -1;
+}
+
+/* One address of a change: -1 or the error. Counts what it stores, also where an error follows. */
+static int change(struct part *part, const uint8_t *address, const uint8_t *values, uint16_t *stored)
+{
+    struct place to = { NULL, 0, 0 };
+    int error = locate(address, &to);
+    const struct parameter *p = to.parameter;
+
+    if (error >= 0)
+        return error;
+    if (!p->writable)
+        return 0x01;
+    if (values[0] != p->type && values[0] != size_code(p))
+        return 0x05;
+    if (values[1] != to.elements)
+        return 0x18;
+    unsigned size = size_of(p);
+    for (unsigned i = 0; i < to.elements; i++) {
+        const uint8_t *value = values + 2 + i * size;
+        int32_t n = p->type == I32 ? signed_double(value) : (int32_t)word(value); /* no other type is writable */
+
+        if (n < p->low || n > p->high)
+            return 0x02;
+        memcpy((uint8_t *)part + to.at + i * size, value, size);
+        ++*stored;
+    }
+    return -1;
+}
+
+static uint8_t *add_error(uint8_t *to, int error)
+{
+    memcpy(to, (uint8_t[]){ ERROR, 1, 0, (uint8_t)error }, 4);
+    return to + 4;
+}
+
+/* The blocks of the response to a request, from `to` on; the end of them. */
+static uint8_t *work_request(struct part *part, const uint8_t *block, uint8_t *to)
+{
+    const uint8_t *address = block + HEADER;
+
+    for (unsigned left = block[3]; left > 0; left--, address += ADDRESS) {
+        struct place from = { NULL, 0, 0 };
+        int error = locate(address, &from);
+        size_t bytes = error < 0 ? from.elements * size_of(from.parameter) : 0;
+
+        if (error < 0 && to + 2 + bytes > part->response + BLOCK - 4 * (left - 1))
+            error = 0x15;
+        if (error < 0) {
+            *to++ = (uint8_t)size_code(from.parameter);
+            *to++ = (uint8_t)from.elements;
+            memcpy(to, (uint8_t *)part + from.at, bytes);
+            to += bytes;
+        } else {
+            part->response[1] |= FAILED;
+            to = add_error(to, error);
+        }
+    }
+    return to;
+}
+
+/* The same for a change: no blocks where all went well. */
+static uint8_t *work_change(struct part *part, const uint8_t *block, uint8_t *to, uint16_t *stored)
+{
+    const uint8_t *address = block + HEADER, *values = address + (size_t)block[3] * ADDRESS;
+    uint8_t *start = to;
+
+    for (unsigned left = block[3]; left > 0; left--, address += ADDRESS) {
+        int error = change(part, address, values, stored);
+
+        values += 2 + format_size(values[0]) * values[1];
+        if (error < 0) {
+            *to++ = NOTHING;
+            *to++ = 0;
+        } else {
+            part->response[1] |= FAILED;
+            to = add_error(to, error);
+        }
+    }
+    if (part->response[1] & FAILED)
+        return to;
+    memset(start, 0, (size_t)(to - start));
+    return start;
+}
+
+/* ---- Frames -------------------------------------------------------------------------------------------------- */
+
+/* Refusals 5 to 11. */
+static unsigned refusal(const struct part *part, unsigned farm, const uint8_t *frame, size_t frame_len)
+{
+    bool read = frame[0] == READ;
+    size_t len = frame[3], after = frame_len - HEADER;
+
+    if (frame[1] != SLOT)
+        return 5;
+    if (frame[2] != INDEX)
+        return 6;
+    if (len > BLOCK || after != (read ? 0 : len))
+        return 7;
+    if (read != (part->length != 0))
+        return 8;
+    if (read)
+        return len < part->length ? 9 : 0;
+    if (!request_readable(frame + HEADER, len))
+        return 10;
+    return frame[HEADER + 2] != farm ? 11 : 0;
+}
+
+static struct llinkhiro_framed fetch(struct part *part, uint8_t *reply)
+{
+    unsigned len = part->length;
+
+    memcpy(reply, (uint8_t[]){ READ, SLOT, INDEX, (uint8_t)len }, HEADER);
+    memcpy(reply + HEADER, part->response, len);
+    memset(part->response, 0, len);
+    part->length = 0;
+    return (struct llinkhiro_framed){ (uint16_t)(HEADER + len), 0, 0 };
+}
+
+static struct llinkhiro_framed write(struct part *part, const uint8_t *frame, uint8_t *reply)
+{
+    const uint8_t *block = frame + HEADER;
+    uint8_t *to = part->response + HEADER;
+    uint16_t stored = 0;
+
+    memcpy(part->response, block, HEADER);
+    to = block[1] == REQUEST ? work_request(part, block, to) : work_change(part, block, to, &stored);
+    part->length = (uint8_t)(to - part->response);
+    memcpy(reply, frame, HEADER);
+    return (struct llinkhiro_framed){ HEADER, stored, 0 };
+}
+
+struct llinkhiro_framed plain_frame(uint8_t *station, size_t station_len, uint32_t farm, const uint8_t *frame,
+                                    size_t frame_len, uint8_t *reply, size_t reply_len)
+{
+    static const uint8_t codes[] = { [5] = 0xB2, [6] = 0xB0, [7] = 0xB1, [8] = 0xB5, [9] = 0xB7, [10] = 0xB8, [11] = 0xB6 };
+    struct part *part;
+    unsigned number = own_part(station, station_len, farm, &part);
+
+    if (number == 0 && reply_len < REPLY)
+        number = 3;
+    if (number == 0 && (frame_len < HEADER || (frame[0] != READ && frame[0] != WRITE)))
+        number = 4;
+    if (number != 0)
+        return (struct llinkhiro_framed){ 0, 0, (uint8_t)number };
+    number = refusal(part, farm, frame, frame_len);
+    if (number != 0) {
+        memcpy(reply, (uint8_t[]){ frame[0] | FAILED, 0x80, codes[number], 0 }, HEADER);
+        return (struct llinkhiro_framed){ HEADER, 0, (uint8_t)number };
+    }
+    return frame[0] == READ ? fetch(part, reply) : write(part, frame, reply);
+}
