@@ -1,12 +1,11 @@
-//! Makes a row's calls of one side: for their answers, for the clock, or for a counter of instructions.
+//! Makes a row's calls of one side, for their answers or for what they cost.
 
 use crate::rows::{Call, Row};
 use crate::sides::Side;
 use std::hint::black_box;
-use std::time::{Duration, Instant};
 use twin::{Cycled, Framed, REPLY_MIN};
 
-/// What one call answered.
+/// What one call answered; a frame's whole reply memory is part of it.
 #[derive(Debug, PartialEq, Eq)]
 pub enum Answer {
     Cycle(Cycled),
@@ -64,10 +63,4 @@ pub fn run<S: Side>(side: &mut S, row: &Row, passes: usize) {
             }
         }
     }
-}
-
-pub fn time<S: Side>(side: &mut S, row: &Row, passes: usize) -> Duration {
-    let begin = Instant::now();
-    run(side, row, passes);
-    begin.elapsed()
 }

@@ -1,0 +1,48 @@
+//! The table: a line for each row, with a figure of each side and what ours is to the others'.
+
+/// The sides in the order of the columns.
+pub const SIDES: [&str; 3] = ["ours", "twin", "C"];
+
+/// What each side costs, where that side has the row and it was measured.
+pub type Costs = [Option<f64>; SIDES.len()];
+
+pub const NONE: Costs = [None; SIDES.len()];
+
+pub fn head() {
+    println!("{:36}|{:^45} |{:^45}", "", "ns", "x86-64 instructions");
+    let columns = format!("{:>8} {:>8} {:>8} {:>10} {:>8}", "ours", "twin", "C", "ours/twin", "ours/C");
+    println!("{:36}|{columns}|{columns}", "");
+}
+
+pub fn line(name: &str, times: Costs, instructions: Costs) {
+    println!("{name:36}|{}|{}", columns(times), columns(instructions));
+}
+
+fn columns([ours, twin, plain]: Costs) -> String {
+    let ratio = |other: Option<f64>| Some(ours? / other?);
+    let figures = format!("{} {} {}", cell(ours, 8, 0), cell(twin, 8, 0), cell(plain, 8, 0));
+    format!("{figures} {} {}", cell(ratio(twin), 10, 2), cell(ratio(plain), 8, 2))
+}
+
+fn cell(figure: Option<f64>, width: usize, digits: usize) -> String {
+    match figure {
+        Some(figure) => format!("{figure:>width$.digits$}"),
+        None => format!("{:>width$}", "-"),
+    }
+}
+
+/// What one more of something costs: the slope of the line that fits best, by how many there were.
+pub fn slope(points: &[(f64, Costs)]) -> Costs {
+    std::array::from_fn(|side| {
+        let points: Option<Vec<(f64, f64)>> = points.iter().map(|(n, costs)| Some((*n, costs[side]?))).collect();
+        least_squares(&points?)
+    })
+}
+
+fn least_squares(points: &[(f64, f64)]) -> Option<f64> {
+    let mean = |of: fn(&(f64, f64)) -> f64| points.iter().map(of).sum::<f64>() / points.len() as f64;
+    let (x, y) = (mean(|p| p.0), mean(|p| p.1));
+    let up: f64 = points.iter().map(|p| (p.0 - x) * (p.1 - y)).sum();
+    let across: f64 = points.iter().map(|p| (p.0 - x) * (p.0 - x)).sum();
+    (across > 0.0).then_some(up / across)
+}
