@@ -4,11 +4,22 @@
 # shellcheck source=../host/packages.sh
 . host/packages.sh
 
+# rust_library VERSION FOLDER : Rust's standard library for amd64 in the folder, which appears only when it is complete.
+rust_library() {
+    local own
+    own=$(mktemp -d "$PWD/target/rust.XXXXXX")
+    lists_amd64 "$own"
+    fetch_amd64 "$own" "libstd-rust-web-dev=$1"
+    mkdir -p "$(dirname "$2")"
+    mv -T "$own/root" "$2"
+    rm -r "$own"
+}
+
 need /usr/bin/rustc rustc-web
-rust_version=$(dpkg-query -W -f '${Version}' rustc-web) || stop "/usr/bin/rustc is not of the package rustc-web"
-rust_library=target/amd64/rust-$rust_version
-fetch_amd64 "$rust_library" "libstd-rust-web-dev=$rust_version"
+version=$(dpkg-query -W -f '${Version}' rustc-web) || stop "/usr/bin/rustc is not of the package rustc-web"
+library=$PWD/target/amd64/rust-$version
+[ -d "$library" ] || rust_library "$version" "$library" >&2
 export RUSTC=/usr/bin/rustc
 export CARGO_BUILD_TARGET=x86_64-unknown-linux-gnu
 export CARGO_TARGET_X86_64_UNKNOWN_LINUX_GNU_LINKER=$cc
-export CARGO_TARGET_X86_64_UNKNOWN_LINUX_GNU_RUSTFLAGS="--sysroot=$PWD/$rust_library/usr"
+export CARGO_TARGET_X86_64_UNKNOWN_LINUX_GNU_RUSTFLAGS=--sysroot=$library/usr

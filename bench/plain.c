@@ -3,6 +3,7 @@
 #include "llinkhiro.h"
 
 #include <stdbool.h>
+#include <stdlib.h>
 #include <string.h>
 
 enum { AXES = 16, SITUATIONS = 4, CODES = 8, BLOCK = 240, HEADER = 4, ADDRESS = 6, PARAMETERS = 39, REPLY = HEADER + BLOCK };
@@ -29,11 +30,6 @@ static unsigned word(const uint8_t b[2])
     return (unsigned)b[0] << 8 | b[1];
 }
 
-static int16_t signed_word(const uint8_t b[2])
-{
-    return (int16_t)word(b);
-}
-
 static int32_t signed_double(const uint8_t b[4])
 {
     return (int32_t)((uint32_t)word(b) << 16 | word(b + 2));
@@ -55,62 +51,39 @@ static bool zero(const uint8_t *b, size_t len)
 struct parameter {
     int32_t low, high;
     uint16_t at;
-    uint8_t type;
+    uint8_t type, size, size_code;
     uint8_t elements; /* 0: simple */
     bool writable;
 };
 
-#define FIXED(name, type, elements) { 0, 0, offsetof(struct part, name), type, elements, false }
-#define LIMITED(name, type, elements, low, high) { low, high, offsetof(struct part, name), type, elements, true }
+#define BY_SIZE(type, one, two, four) ((type) == U8 ? (one) : (type) == I32 ? (four) : (two))
+#define ROW(pnu, type, elements, writable, low, high) \
+    case pnu: { \
+        static const struct parameter p = { low, high, offsetof(struct part, p##pnu), type, BY_SIZE(type, 1, 2, 4), \
+                                            BY_SIZE(type, SIZE_1, SIZE_2, SIZE_4), elements, writable }; \
+        return &p; \
+    }
 
 static const struct parameter *find(unsigned pnu)
 {
-    static const struct parameter table[] = {
-        FIXED(p930, U16, 0),
-        FIXED(p944, U16, 0),
-        FIXED(p947, U16, SITUATIONS * CODES),
-        FIXED(p965, U8, 2),
-        LIMITED(p9900, U16, 0, 0, 65535),
-        LIMITED(p9901, U16, 8, 0, 65535),
-        FIXED(p10100, U16, 0),
-        FIXED(p10101, I16, 0),
-        FIXED(p10102, U16, 0),
-        FIXED(p10103, I16, 0),
-        LIMITED(p10111, U16, 0, 1, 60000),
-        LIMITED(p30001, U16, 4, 0, 3000),
-        LIMITED(p30002, U16, 0, 0, 16384),
-        LIMITED(p30003, U16, 0, 0, 32767),
-        LIMITED(p30004, I32, 2, -100000, 100000),
-    };
-
     switch (pnu) {
-    case 930: return &table[0];
-    case 944: return &table[1];
-    case 947: return &table[2];
-    case 965: return &table[3];
-    case 9900: return &table[4];
-    case 9901: return &table[5];
-    case 10100: return &table[6];
-    case 10101: return &table[7];
-    case 10102: return &table[8];
-    case 10103: return &table[9];
-    case 10111: return &table[10];
-    case 30001: return &table[11];
-    case 30002: return &table[12];
-    case 30003: return &table[13];
-    case 30004: return &table[14];
-    default: return NULL;
+        ROW(930, U16, 0, false, 0, 0)
+        ROW(944, U16, 0, false, 0, 0)
+        ROW(947, U16, SITUATIONS * CODES, false, 0, 0)
+        ROW(965, U8, 2, false, 0, 0)
+        ROW(9900, U16, 0, true, 0, 65535)
+        ROW(9901, U16, 8, true, 0, 65535)
+        ROW(10100, U16, 0, false, 0, 0)
+        ROW(10101, I16, 0, false, 0, 0)
+        ROW(10102, U16, 0, false, 0, 0)
+        ROW(10103, I16, 0, false, 0, 0)
+        ROW(10111, U16, 0, true, 1, 60000)
+        ROW(30001, U16, 4, true, 0, 3000)
+        ROW(30002, U16, 0, true, 0, 16384)
+        ROW(30003, U16, 0, true, 0, 32767)
+        ROW(30004, I32, 2, true, -100000, 100000)
     }
-}
-
-static unsigned size_of(const struct parameter *p)
-{
-    return p->type == U8 ? 1 : p->type == I32 ? 4 : 2;
-}
-
-static unsigned size_code(const struct parameter *p)
-{
-    return p->type == U8 ? SIZE_1 : p->type == I32 ? SIZE_4 : SIZE_2;
+    return NULL;
 }
 
 /* ---- A part -------------------------------------------------------------------------------------------------- */
@@ -180,14 +153,13 @@ static bool waiting_formed(const struct part *part, unsigned axis)
 static bool limits_formed(const struct part *part)
 {
     unsigned rpm = word(part->p10111);
+    bool formed = rpm >= 1 && rpm <= 60000 && word(part->p30002) <= 16384 && word(part->p30003) <= 32767;
 
     for (unsigned i = 0; i < 4; i++)
-        if (word(part->p30001[i]) > 3000)
-            return false;
+        formed &= word(part->p30001[i]) <= 3000;
     for (unsigned i = 0; i < 2; i++)
-        if (signed_double(part->p30004[i]) < -100000 || signed_double(part->p30004[i]) > 100000)
-            return false;
-    return rpm >= 1 && rpm <= 60000 && word(part->p30002) <= 16384 && word(part->p30003) <= 32767;
+        formed &= (uint32_t)signed_double(part->p30004[i]) + 100000 <= 200000;
+    return formed;
 }
 
 static bool well_formed(const struct part *part, unsigned axis)
@@ -297,25 +269,20 @@ static unsigned state_bits(unsigned state)
     return state == S1 ? 0x40 : state == S2 ? 0x01 : state == S4 ? 0x07 : 0x03;
 }
 
-static int distance(int a, int b)
-{
-    return a < b ? b - a : a - b;
-}
-
 /* Steps 1 to 7. */
 static struct llinkhiro_cycled cycled(struct part *part, unsigned flags, uint16_t stw1, int16_t nsoll, int16_t nist, uint16_t fault)
 {
     unsigned w = bit(stw1, 10) ? stw1 : word(part->p10100);
-    int16_t setpoint = bit(stw1, 10) ? nsoll : signed_word(part->p10101), effective = 0;
+    int16_t setpoint = bit(stw1, 10) ? nsoll : (int16_t)word(part->p10101), effective = 0;
 
     acknowledge(part, w, fault);
     record_fault(part, fault);
     bool faulted = word(part->p947[0][0]) != 0;
     unsigned state = faulted ? S1 : next_state(part->state, w, bit(flags, 0));
     if (state == S4 && bit(w, 4) && bit(w, 6))
-        effective = bit(w, 5) ? setpoint : signed_word(part->effective);
-    bool near = distance(effective, nist) <= (int)word(part->p30002);
-    bool fast = distance(nist, 0) >= (int)word(part->p30003);
+        effective = bit(w, 5) ? setpoint : (int16_t)word(part->effective);
+    bool near = abs(effective - nist) <= (int)word(part->p30002);
+    bool fast = abs(nist) >= (int)word(part->p30003);
     unsigned status = state_bits(state) | faulted << 3 | (w & 0x06) << 3 | bit(flags, 1) << 7 | near << 8 | 1 << 9 | fast << 10;
     part->state = (uint8_t)state;
     put_word(part->effective, (uint16_t)effective);
@@ -365,14 +332,14 @@ static bool request_readable(const uint8_t *block, size_t len)
     return at == len;
 }
 
-/* The elements that an address names, of the parameter at their first byte. */
+/* The elements that an address names: how many, and their first byte in the part. */
 struct place {
     const struct parameter *parameter;
     unsigned elements;
     size_t at;
 };
 
-/* The rules for every address: its place, or -1 where there is none, or the error. */
+/* The rules for every address: the error, or -1 and the place. */
 static int locate(const uint8_t address[ADDRESS], struct place *place)
 {
     const struct parameter *p = find(word(address + 2));
@@ -388,7 +355,7 @@ static int locate(const uint8_t address[ADDRESS], struct place *place)
         return 0x16;
     if (p->elements != 0 && first + elements > p->elements)
         return 0x03;
-    *place = (struct place){ p, elements == 0 ? 1 : elements, p->at + (size_t)first * size_of(p) };
+    *place = (struct place){ p, elements == 0 ? 1 : elements, p->at + (size_t)first * p->size };
     return -1;
 }
 
@@ -403,56 +370,56 @@ static int change(struct part *part, const uint8_t *address, const uint8_t *valu
         return error;
     if (!p->writable)
         return 0x01;
-    if (values[0] != p->type && values[0] != size_code(p))
+    if (values[0] != p->type && values[0] != p->size_code)
         return 0x05;
     if (values[1] != to.elements)
         return 0x18;
-    unsigned size = size_of(p);
-    for (unsigned i = 0; i < to.elements; i++) {
-        const uint8_t *value = values + 2 + i * size;
+    const uint8_t *value = values + 2;
+    uint8_t *element = (uint8_t *)part + to.at;
+    for (unsigned i = 0; i < to.elements; i++, value += p->size, element += p->size, ++*stored) {
         int32_t n = p->type == I32 ? signed_double(value) : (int32_t)word(value); /* no other type is writable */
 
         if (n < p->low || n > p->high)
             return 0x02;
-        memcpy((uint8_t *)part + to.at + i * size, value, size);
-        ++*stored;
+        memcpy(element, value, p->size);
     }
     return -1;
 }
 
-static uint8_t *add_error(uint8_t *to, int error)
+/* Adds the error's block; with it the response is one of failure. */
+static uint8_t *add_error(struct part *part, uint8_t *to, int error)
 {
+    part->response[1] |= FAILED;
     memcpy(to, (uint8_t[]){ ERROR, 1, 0, (uint8_t)error }, 4);
     return to + 4;
 }
 
-/* The blocks of the response to a request, from `to` on; the end of them. */
-static uint8_t *work_request(struct part *part, const uint8_t *block, uint8_t *to)
+/* Writes the blocks of the response to a request from `to` on; their end. */
+static uint8_t *read_all(struct part *part, const uint8_t *block, uint8_t *to)
 {
     const uint8_t *address = block + HEADER;
 
     for (unsigned left = block[3]; left > 0; left--, address += ADDRESS) {
         struct place from = { NULL, 0, 0 };
         int error = locate(address, &from);
-        size_t bytes = error < 0 ? from.elements * size_of(from.parameter) : 0;
+        size_t bytes = error < 0 ? from.elements * from.parameter->size : 0;
 
-        if (error < 0 && to + 2 + bytes > part->response + BLOCK - 4 * (left - 1))
+        if (error < 0 && (size_t)(to - part->response) + 2 + bytes > BLOCK - 4 * (left - 1))
             error = 0x15;
-        if (error < 0) {
-            *to++ = (uint8_t)size_code(from.parameter);
-            *to++ = (uint8_t)from.elements;
-            memcpy(to, (uint8_t *)part + from.at, bytes);
-            to += bytes;
-        } else {
-            part->response[1] |= FAILED;
-            to = add_error(to, error);
+        if (error >= 0) {
+            to = add_error(part, to, error);
+            continue;
         }
+        *to++ = from.parameter->size_code;
+        *to++ = (uint8_t)from.elements;
+        memcpy(to, (uint8_t *)part + from.at, bytes);
+        to += bytes;
     }
     return to;
 }
 
 /* The same for a change: no blocks where all went well. */
-static uint8_t *work_change(struct part *part, const uint8_t *block, uint8_t *to, uint16_t *stored)
+static uint8_t *change_all(struct part *part, const uint8_t *block, uint8_t *to, uint16_t *stored)
 {
     const uint8_t *address = block + HEADER, *values = address + (size_t)block[3] * ADDRESS;
     uint8_t *start = to;
@@ -461,13 +428,12 @@ static uint8_t *work_change(struct part *part, const uint8_t *block, uint8_t *to
         int error = change(part, address, values, stored);
 
         values += 2 + format_size(values[0]) * values[1];
-        if (error < 0) {
-            *to++ = NOTHING;
-            *to++ = 0;
-        } else {
-            part->response[1] |= FAILED;
-            to = add_error(to, error);
+        if (error >= 0) {
+            to = add_error(part, to, error);
+            continue;
         }
+        *to++ = NOTHING;
+        *to++ = 0;
     }
     if (part->response[1] & FAILED)
         return to;
@@ -509,14 +475,14 @@ static struct llinkhiro_framed fetch(struct part *part, uint8_t *reply)
     return (struct llinkhiro_framed){ (uint16_t)(HEADER + len), 0, 0 };
 }
 
-static struct llinkhiro_framed write(struct part *part, const uint8_t *frame, uint8_t *reply)
+static struct llinkhiro_framed work(struct part *part, const uint8_t *frame, uint8_t *reply)
 {
     const uint8_t *block = frame + HEADER;
     uint8_t *to = part->response + HEADER;
     uint16_t stored = 0;
 
     memcpy(part->response, block, HEADER);
-    to = block[1] == REQUEST ? work_request(part, block, to) : work_change(part, block, to, &stored);
+    to = block[1] == REQUEST ? read_all(part, block, to) : change_all(part, block, to, &stored);
     part->length = (uint8_t)(to - part->response);
     memcpy(reply, frame, HEADER);
     return (struct llinkhiro_framed){ HEADER, stored, 0 };
@@ -540,5 +506,5 @@ struct llinkhiro_framed plain_frame(uint8_t *station, size_t station_len, uint32
         memcpy(reply, (uint8_t[]){ frame[0] | FAILED, 0x80, codes[number], 0 }, HEADER);
         return (struct llinkhiro_framed){ HEADER, 0, (uint8_t)number };
     }
-    return frame[0] == READ ? fetch(part, reply) : write(part, frame, reply);
+    return frame[0] == READ ? fetch(part, reply) : work(part, frame, reply);
 }

@@ -1,21 +1,22 @@
-# Sourced after target.sh: Debian packages of amd64 on a machine of another processor, unpacked and not installed. Apt gets lists
-# and a cache of its own, so nothing that is installed here is touched; its sources and the signatures that it checks are this machine's.
+# Sourced after target.sh: Debian packages for amd64 on a machine of another processor, unpacked and not installed.
 
-# fetch_amd64 FOLDER PACKAGE.. : these packages alone, without those that they depend on, unpacked in the folder. A package may
-# be NAME=VERSION. The folder appears only when it is complete.
+# lists_amd64 FOLDER : sets `amd64`, the options of an apt for amd64 that keeps all of its own in the folder, and fetches its
+# lists. This machine's lists and packages stay as they are; the sources and the signatures that are checked are this machine's. It
+# does not change to apt's user, who may not be let into the folder.
+lists_amd64() {
+    amd64=(-q -o APT::Architecture=amd64 -o APT::Architectures=amd64 -o APT::Sandbox::User=root -o Acquire::Languages=none
+        -o "Dir::State=$1/state" -o Dir::State::status=/dev/null -o "Dir::Cache=$1/cache")
+    mkdir "$1/state" "$1/cache"
+    apt-get "${amd64[@]}" update || stop "could not fetch the lists of packages for amd64"
+}
+
+# fetch_amd64 FOLDER PACKAGE.. : these packages alone, without those that they depend on, unpacked in FOLDER/root. A package may
+# be NAME=VERSION. lists_amd64 comes first.
 fetch_amd64() {
-    local folder=$1 work package
+    local folder=$1 package
     shift
-    [ -d "$folder" ] && return
-    mkdir -p "$(dirname "$folder")"
-    work=$(mktemp -d "$folder.XXXXXX")
-    mkdir -p "$work/apt/lists/partial" "$work/apt/archives/partial" "$work/root"
-    local apt=(apt-get -q -o APT::Architecture=amd64 -o APT::Architectures::=amd64 -o Dir::State="$PWD/$work/apt"
-        -o Dir::State::status=/dev/null -o Dir::Cache="$PWD/$work/apt" -o APT::Sandbox::User=root)
-    { "${apt[@]}" update && (cd "$work/apt/archives" && "${apt[@]}" download "$@"); } >&2 || stop "could not fetch $* for amd64"
-    for package in "$work"/apt/archives/*.deb; do
-        dpkg-deb -x "$package" "$work/root" || stop "could not unpack $package"
+    (cd "$folder" && apt-get "${amd64[@]}" download "$@") || stop "could not fetch packages for amd64: $*"
+    for package in "$folder"/*.deb; do
+        dpkg-deb -x "$package" "$folder/root" || stop "could not unpack $package"
     done
-    mv "$work/root" "$folder"
-    rm -rf "$work"
 }
