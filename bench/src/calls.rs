@@ -1,26 +1,30 @@
 //! The rows of calls: the three sides in one program.
 
-use crate::best;
 use crate::measure::{answers, run, started};
 use crate::outside::Started;
 use crate::rows::{rows, Row};
 use crate::sides::{Ours, Plain, Side, Twin};
-use crate::table::{line, slope, Costs, NONE, SIDES};
+use crate::table::{least, line, slope, Costs, NONE, SIDES};
 use std::error::Error;
 use std::io;
 use std::time::Instant;
 
-/// Nanoseconds of a batch: so long that neither the clock nor the turn from side to side counts.
-const BATCH: f64 = 20e6;
+/// Nanoseconds of a batch: so long that the clock does not count, so short that many go by without the machine turning to others.
+const BATCH: f64 = 2e6;
+/// Batches of each side; the best of them counts, since what disturbs a batch can only make it longer.
+const ROUNDS: usize = 100;
 /// Passes over a row's calls while instructions are counted; they are the same in each, so a few do.
 const COUNTED_PASSES: usize = 50;
 
 /// Measures every row and prints its line, then how the cost grows with the addresses.
 pub fn measure(counter: &str) -> Result<(), Box<dyn Error>> {
+    let rows = rows();
+    for row in &rows {
+        alike(row).map_err(|why| format!("{}: {why}", row.name))?;
+    }
     let (mut times, mut counts) = (Vec::new(), Vec::new());
-    for row in rows() {
-        alike(&row).map_err(|why| format!("{}: {why}", row.name))?;
-        let (time, count) = (timed(&row), counted(counter, &row)?);
+    for (row, time) in rows.iter().zip(timed(&rows)) {
+        let count = counted(counter, row)?;
         line(&row.name, time, count);
         if let Some(addresses) = row.addresses {
             times.push((addresses as f64, time));
@@ -49,15 +53,48 @@ fn alike(row: &Row) -> Result<(), String> {
     }
 }
 
-fn timed(row: &Row) -> Costs {
-    let (mut ours, mut twin, mut plain) = (started::<Ours>(row), started::<Twin>(row), started::<Plain>(row));
-    let mut round =
-        |passes| [time(&mut ours, row, passes), time(&mut twin, row, passes), time(&mut plain, row, passes)];
-    let mut passes = 1;
-    while round(passes).into_iter().fold(f64::INFINITY, f64::min) < BATCH {
-        passes *= 2;
+/// One row on stations of its own, and the least that each side has taken.
+struct Timed<'a> {
+    row: &'a Row,
+    sides: (Ours, Twin, Plain),
+    passes: usize,
+    best: [f64; SIDES.len()],
+}
+
+/// Each round takes every row and every side once, so that a slow spell of the machine falls on all of them.
+fn timed(rows: &[Row]) -> Vec<Costs> {
+    let mut all: Vec<Timed> = rows.iter().map(Timed::new).collect();
+    for _ in 0..ROUNDS {
+        all.iter_mut().for_each(Timed::round);
     }
-    best(|| round(passes)).map(|nanoseconds| Some(nanoseconds / (passes * row.units) as f64))
+    all.iter().map(Timed::costs).collect()
+}
+
+impl Timed<'_> {
+    fn new(row: &Row) -> Timed<'_> {
+        let sides = (started(row), started(row), started(row));
+        let mut timed = Timed { row, sides, passes: 1, best: [f64::INFINITY; SIDES.len()] };
+        while timed.batches().into_iter().fold(f64::INFINITY, f64::min) < BATCH {
+            timed.passes *= 2;
+        }
+        timed
+    }
+
+    /// Nanoseconds of a batch of each side.
+    fn batches(&mut self) -> [f64; SIDES.len()] {
+        let (ours, twin, plain) = &mut self.sides;
+        let (row, passes) = (self.row, self.passes);
+        [time(ours, row, passes), time(twin, row, passes), time(plain, row, passes)]
+    }
+
+    fn round(&mut self) {
+        let batches = self.batches();
+        self.best = least(self.best, batches);
+    }
+
+    fn costs(&self) -> Costs {
+        self.best.map(|nanoseconds| Some(nanoseconds / (self.passes * self.row.units) as f64))
+    }
 }
 
 fn time<S: Side>(side: &mut S, row: &Row, passes: usize) -> f64 {

@@ -22,9 +22,6 @@ mod table;
 use std::error::Error;
 use std::process::ExitCode;
 
-/// Batches of each side; the best of them counts, since what disturbs a batch can only make it longer.
-const ROUNDS: usize = 15;
-
 fn main() -> ExitCode {
     let arguments: Vec<String> = std::env::args().skip(1).collect();
     let words: Vec<&str> = arguments.iter().map(String::as_str).collect();
@@ -44,7 +41,7 @@ fn main() -> ExitCode {
 
 fn bench(emulator: &str, counter: &str, journal: &str, replay: &str, twin: &str) -> Result<(), Box<dyn Error>> {
     println!(
-        "A cycle, a write with its fetch, a frame, a record: best of {ROUNDS} rounds, in which the sides take turns."
+        "A cycle, a write and its fetch, a frame, a record: the best of many rounds, in which the sides take turns."
     );
     if !emulator.is_empty() {
         println!("UNDER AN EMULATOR ({emulator}): the times are its own, and only their ratios speak.");
@@ -52,14 +49,4 @@ fn bench(emulator: &str, counter: &str, journal: &str, replay: &str, twin: &str)
     table::head();
     calls::measure(counter)?;
     journal::measure(emulator, counter, journal, replay, twin)
-}
-
-/// The least of each figure over the rounds.
-fn best<const N: usize>(mut round: impl FnMut() -> [f64; N]) -> [f64; N] {
-    let mut best = [f64::INFINITY; N];
-    for _ in 0..ROUNDS {
-        let figures = round();
-        best = std::array::from_fn(|i| best[i].min(figures[i]));
-    }
-    best
 }

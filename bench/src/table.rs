@@ -46,3 +46,8 @@ fn least_squares(points: &[(f64, f64)]) -> Option<f64> {
     let across: f64 = points.iter().map(|p| (p.0 - x) * (p.0 - x)).sum();
     (across > 0.0).then_some(up / across)
 }
+
+/// The lesser of each two figures.
+pub fn least<const N: usize>(a: [f64; N], b: [f64; N]) -> [f64; N] {
+    std::array::from_fn(|i| a[i].min(b[i]))
+}
