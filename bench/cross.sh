@@ -1,7 +1,7 @@
 # Sourced after target.sh where the processor is not x86-64: cargo then builds for x86-64. The library is x86-64 code, and a ratio
 # says something only where both sides are code of one processor, run in one way. The compiler is Debian's, since the standard
 # library for another processor is a package of it; the two must be of one version.
-# shellcheck source=../host/packages.sh
+# shellcheck source=host/packages.sh
 . host/packages.sh
 
 # rust_library VERSION FOLDER : Rust's standard library for amd64 in the folder, which appears only when it is complete.

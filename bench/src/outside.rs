@@ -1,5 +1,6 @@
 //! Programs that are started to be timed or counted.
 
+use std::fmt::Display;
 use std::fs::File;
 use std::io::{self, Error};
 use std::process::{Command, ExitStatus, Stdio};
@@ -20,16 +21,20 @@ impl Started {
         Ok(command)
     }
 
+    fn failed(&self, why: impl Display) -> Error {
+        Error::other(format!("{}: {why}", self.0.join(" ")))
+    }
+
     fn ended(&self, status: ExitStatus) -> io::Result<()> {
         match status.success() {
             true => Ok(()),
-            false => Err(Error::other(format!("{status}: {}", self.0.join(" ")))),
+            false => Err(self.failed(status)),
         }
     }
 
     /// What it writes on this input.
     pub fn output(&self, input: &str) -> io::Result<Vec<u8>> {
-        let output = self.command(input)?.stderr(Stdio::inherit()).output()?;
+        let output = self.command(input)?.stderr(Stdio::inherit()).output().map_err(|error| self.failed(error))?;
         self.ended(output.status)?;
         Ok(output.stdout)
     }
@@ -46,10 +51,10 @@ impl Started {
 
     /// The instructions that a counter reports at its end: the number after `Collected :`.
     pub fn count(&self, input: &str) -> io::Result<f64> {
-        let output = self.command(input)?.output()?;
+        let output = self.command(input)?.output().map_err(|error| self.failed(error))?;
         let said = String::from_utf8_lossy(&output.stderr);
         let after = said.rsplit_once("Collected :").map(|(_, after)| after);
         let number = after.and_then(|after| after.split_whitespace().next()?.parse().ok());
-        number.ok_or_else(|| Error::other(format!("nothing was counted: {}: {said}", self.0.join(" "))))
+        number.ok_or_else(|| self.failed(format!("counted nothing: {said}")))
     }
 }

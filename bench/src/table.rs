@@ -9,7 +9,7 @@ pub type Costs = [Option<f64>; SIDES.len()];
 pub const NONE: Costs = [None; SIDES.len()];
 
 pub fn head() {
-    println!("{:36}|{:^45} |{:^45}", "", "ns", "x86-64 instructions");
+    println!("{:36}|{:^46}|{:^46}", "", "ns", "x86-64 instructions");
     let columns = format!("{:>8} {:>8} {:>8} {:>10} {:>8}", "ours", "twin", "C", "ours/twin", "ours/C");
     println!("{:36}|{columns}|{columns}", "");
 }
@@ -18,17 +18,15 @@ pub fn line(name: &str, times: Costs, instructions: Costs) {
     println!("{name:36}|{}|{}", columns(times), columns(instructions));
 }
 
-fn columns([ours, twin, plain]: Costs) -> String {
-    let ratio = |other: Option<f64>| Some(ours? / other?);
-    let figures = format!("{} {} {}", cell(ours, 8, 0), cell(twin, 8, 0), cell(plain, 8, 0));
-    format!("{figures} {} {}", cell(ratio(twin), 10, 2), cell(ratio(plain), 8, 2))
+fn columns(costs: Costs) -> String {
+    let [ours, twin, plain] = costs;
+    let ratio = |other: Option<f64>| cell(ours.zip(other).map(|(ours, other)| ours / other), 2);
+    let [first, second, third] = costs.map(|cost| cell(cost, if cost < Some(100.0) { 1 } else { 0 }));
+    format!("{first:>8} {second:>8} {third:>8} {:>10} {:>8}", ratio(twin), ratio(plain))
 }
 
-fn cell(figure: Option<f64>, width: usize, digits: usize) -> String {
-    match figure {
-        Some(figure) => format!("{figure:>width$.digits$}"),
-        None => format!("{:>width$}", "-"),
-    }
+fn cell(figure: Option<f64>, digits: usize) -> String {
+    figure.map_or("-".to_string(), |figure| format!("{figure:.digits$}"))
 }
 
 /// What one more of something costs: the slope of the line that fits best, by how many there were.
