@@ -6,7 +6,7 @@ use std::error::Error;
 use std::io;
 
 /// Runs of each program; the best of them counts.
-const ROUNDS: usize = 15;
+const ROUNDS: usize = 40;
 /// No record: what is left is the start of the program, which is taken off.
 const EMPTY: &str = "/dev/null";
 
