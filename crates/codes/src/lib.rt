@@ -101,6 +101,23 @@ pub fn put_number(out: &mut [u8], at: usize, w: usize, x: u32)
     put_here(out, at, w, x);
 }
 
+// Writes `from` at `at`; nothing where it does not all fit.
+pub fn put_bytes(out: &mut [u8], at: usize, from: &[u8])
+    ensures { λ r. ⌜ now (out .exit) ≡ put (now (out .entry)) at (now (from .entry)) ⌝ }
+{
+    if out.len() < from.len() {
+        return;
+    }
+    if out.len() - from.len() < at {
+        return;
+    }
+    let mut i: usize = 0;
+    while i < from.len() {
+        out[at + i] = from[i];
+        i += 1;
+    }
+}
+
 // The signed number that two bytes stand for.
 pub fn signed16(x: u16) -> i16
     ensures { λ r. ⌜ r ≡ signedOf 2 x ⌝ }

@@ -1,4 +1,3 @@
-pub mod Stores
 pub mod Waiting
 pub mod Words
 pub mod Situations

@@ -9,10 +9,7 @@ mod start; // start.rt: a fresh part
 pub use form::well_formed;
 pub use record::load;
 pub use record::number_of;
-pub use record::reference;
 pub use record::store;
-pub use record::threshold;
-pub use record::window;
 pub use response::clear_response;
 pub use response::put_response;
 pub use response::waiting_length;

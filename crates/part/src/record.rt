@@ -1,7 +1,7 @@
-// The drive record of an axis, in and out of its part, and the parameters that a cycle needs.
+// The drive record of an axis, in and out of its part.
 ghost use mathlib.Core.Path.{_≡_};
 ghost use Rattle.codes.specs.Code.{word, writeAll};
-ghost use Rattle.codes.specs.Number.{numberAt, put};
+ghost use Rattle.codes.specs.Number.{put};
 ghost use Rattle.drive.specs.Faults.{buffer};
 ghost use Rattle.catalogue.specs.Table.{offsetOf};
 ghost use Rattle.part.specs.Record.{numberOf, stateOf, wordsAt, speedAt, driveOf, putWord, putSpeed, putFaults, putDrive};
@@ -139,25 +139,4 @@ pub fn store(part: &mut [u8], d: Drive)
     put_word(part, catalogue::AT_10102 as usize, d.status);
     put_speed(part, catalogue::AT_10103 as usize, actual);
     put_faults(part, f);
-}
-
-// PNU 10111, the reference speed.
-pub fn reference(part: &[u8]) -> u16
-    ensures { λ r. ⌜ r ≡ numberAt 2 (now (part .entry)) (offsetOf 10111) ⌝ }
-{
-    codes::word_at(part, catalogue::AT_10111 as usize)
-}
-
-// PNU 30002, the window of bit 8 of ZSW1.
-pub fn window(part: &[u8]) -> u16
-    ensures { λ r. ⌜ r ≡ numberAt 2 (now (part .entry)) (offsetOf 30002) ⌝ }
-{
-    codes::word_at(part, catalogue::AT_30002 as usize)
-}
-
-// PNU 30003, the threshold of bit 10 of ZSW1.
-pub fn threshold(part: &[u8]) -> u16
-    ensures { λ r. ⌜ r ≡ numberAt 2 (now (part .entry)) (offsetOf 30003) ⌝ }
-{
-    codes::word_at(part, catalogue::AT_30003 as usize)
 }

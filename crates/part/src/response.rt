@@ -34,7 +34,7 @@ pub fn put_response(part: &mut [u8], bytes: [u8; blocks::BLOCK_LIMIT], n: u8)
     if part.len() < super::SIZE {
         return;
     }
-    super::runs::copy_bytes(part, super::RESPONSE, &bytes[..m]);
+    codes::put_bytes(part, super::RESPONSE, &bytes[..m]);
     super::runs::clear_bytes(part, super::RESPONSE + m, blocks::BLOCK_LIMIT - m);
 }
 

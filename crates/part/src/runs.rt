@@ -1,4 +1,4 @@
-// Runs of bytes in a slice: copied, cleared, and tested for 0.
+// Runs of bytes in a slice: cleared, and tested for 0.
 ghost use mathlib.Core.Path.{_≡_};
 ghost use mathlib.Core.Bool.{_&&_};
 ghost use Prim.Native.Nat.{_+_, _≤_};
@@ -6,18 +6,6 @@ ghost use lib.Dec.{eqb};
 ghost use lib.ListN.{length, replicate};
 ghost use Rattle.codes.specs.Number.{put};
 ghost use Rattle.drive.specs.Faults.{zeros};
-
-// Copies `from` to the bytes at `at`, where there is room.
-pub(crate) fn copy_bytes(out: &mut [u8], at: usize, from: &[u8])
-    requires { ⌜ at + length (now from) ≤ length (now out) ⌝ }
-    ensures { λ r. ⌜ now (out .exit) ≡ put (now (out .entry)) at (now (from .entry)) ⌝ }
-{
-    let mut i: usize = 0;
-    while i < from.len() {
-        out[at + i] = from[i];
-        i += 1;
-    }
-}
 
 // Clears the n bytes at `at`, which stand in the slice.
 pub(crate) fn clear_bytes(out: &mut [u8], at: usize, n: usize)

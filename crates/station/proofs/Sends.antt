@@ -1,5 +1,5 @@
 -- What waits after a block is worked is the response that the rules give, and what is sent is what waits.
-use mathlib.Core.Path.{_≡_, sym, _∙_, ap}
+use mathlib.Core.Path.{_≡_, _∙_, ap}
 use mathlib.Core.Bool.{true}
 use mathlib.Core.List.{List, []}
 use Prim.Native.Nat.{ℕ, _≤_}
@@ -12,12 +12,12 @@ use Rattle.blocks.specs.Response.{response}
 use Rattle.blocks.proofs.Sound.{request-sound}
 use Rattle.blocks.proofs.Page.{request-valid}
 use Rattle.blocks.proofs.Demand.{responses}
-use Rattle.part.specs.Layout.{partSize, waiting, withResponse}
+use Rattle.part.specs.Layout.{waiting, withResponse}
 use Rattle.part.proofs.Laws.{waiting-is-given}
 use Rattle.access.specs.Work.{worked, outcomeOf}
 use Rattle.access.proofs.Answers.{answer-readable}
 use Rattle.access.proofs.Keeps.{only-asked-changes}
-use Rattle.station.specs.Frame.{refusalOf, frameReply}
+use Rattle.station.specs.Frame.{frameReply}
 use Rattle.station.specs.Laws.{WaitsAsRuled, SendsWaiting}
 
 -- a readable block of the axis itself is worked

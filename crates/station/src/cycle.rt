@@ -29,9 +29,9 @@ fn input_of(part: &[u8], flags: u32, stw1: u16, nsoll: i16, nist: i16, fault: u1
         nsoll: N2(nsoll),
         nist: N2(nist),
         fault: fault,
-        reference: part::reference(part),
-        window: part::window(part),
-        threshold: part::threshold(part),
+        reference: codes::word_at(part, catalogue::AT_10111 as usize),
+        window: codes::word_at(part, catalogue::AT_30002 as usize),
+        threshold: codes::word_at(part, catalogue::AT_30003 as usize),
     }
 }
 

@@ -45,7 +45,7 @@ fn read_on(part: &mut [u8], reply: &mut [u8]) -> Framed
     let n = part::waiting_length(part);
     let e = RESPONSE + codes::wide(n);
     reply::put_four(reply, judge::READ, 0, judge::INDEX, n);
-    reply::put_bytes(reply, judge::HEAD, &part[RESPONSE..e]);
+    codes::put_bytes(reply, judge::HEAD, &part[RESPONSE..e]);
     part::clear_response(part);
     Framed {
         length: 4 + n as u16,

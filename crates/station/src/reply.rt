@@ -2,9 +2,7 @@
 ghost use mathlib.Core.Path.{_≡_};
 ghost use mathlib.Core.Bool.{cond};
 ghost use mathlib.Core.List.{[], _∷_};
-ghost use Prim.Native.Nat.{_+_, _≤_};
 ghost use lib.Dec.{eqb};
-ghost use lib.ListN.{length};
 ghost use Rattle.codes.specs.Number.{put};
 ghost use Rattle.station.specs.Frame.{codeOf, refusedReply};
 ghost use Rattle.station.specs.Inner.{framed};
@@ -33,18 +31,6 @@ pub(crate) fn put_four(reply: &mut [u8], a: u8, b: u8, c: u8, d: u8)
     reply[1] = b;
     reply[2] = c;
     reply[3] = d;
-}
-
-// Copies `from` to the bytes at `at`, where there is room.
-pub(crate) fn put_bytes(out: &mut [u8], at: usize, from: &[u8])
-    requires { ⌜ at + length (now from) ≤ length (now out) ⌝ }
-    ensures { λ r. ⌜ now (out .exit) ≡ put (now (out .entry)) at (now (from .entry)) ⌝ }
-{
-    let mut i: usize = 0;
-    while i < from.len() {
-        out[at + i] = from[i];
-        i += 1;
-    }
 }
 
 // The code of a refusal number from 5 to 11.

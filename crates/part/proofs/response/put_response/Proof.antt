@@ -39,17 +39,14 @@ returns c =
 array-share-prefix-bytes : tie.Need-array-share-prefix-bytes
 array-share-prefix-bytes c = search needs
 
-slice-aggregate-copy-bytes : tie.Need-slice-aggregate-copy-bytes
-slice-aggregate-copy-bytes c =
+slice-aggregate-put-bytes : tie.Need-slice-aggregate-put-bytes
+slice-aggregate-put-bytes c =
     let a = c .before .before .before .before .before .before .before .before .before .args in
     let long : length (a .t2) ≡ blockLimit = search needs in
     sym (length-take-le _ (a .t2) (omega arith))
 
-copy-bytes-requires : tie.Need-copy-bytes-requires
-copy-bytes-requires c κs =
-    let a = c .before .before .before .before .before .before .before .before .before .args in
-    let long : length (a .t2) ≡ blockLimit = search needs in
-    omega (arith, length-take-le (c .before .before .before .before .before .before .before .limited .result) (a .t2) (omega arith))
+put-bytes-requires : tie.Need-put-bytes-requires
+put-bytes-requires c κs = search needs
 
 add-clear-bytes : tie.Need-add-clear-bytes
 add-clear-bytes c = search needs
@@ -66,7 +63,7 @@ same-length-2 c = search needs
 returns-2 : tie.Need-returns-2
 unfolding rows parameterBytes
 returns-2 c =
-    let copied = c .before .before .before .before .before .before .copy-bytes .ensures in
+    let copied = c .before .before .before .before .before .before .put-bytes .ensures in
     let back = c .before .before .before .before .before .before .before .before .before .before .before .before in
     let a = back .before .before .before .before .args in
     let m = back .before .before .limited in
@@ -86,8 +83,8 @@ put-response-spec =
     same-length
     returns
     array-share-prefix-bytes
-    slice-aggregate-copy-bytes
-    copy-bytes-requires
+    slice-aggregate-put-bytes
+    put-bytes-requires
     add-clear-bytes
     sub-clear-bytes
     clear-bytes-requires

@@ -1,7 +1,7 @@
 -- Byte by byte, each after those that are put.
 use Rattle.codes.specs.Number.{put}
 use Rattle.codes.proofs.Put.{put-none}
-use Rattle.part.proofs.Stores.{cleared-next}
+use Rattle.codes.proofs.Stores.{cleared-next}
 use denote.Ref.{now}
 use lib.ListN.{length, set, replicate, length-set}
 use Prim.Native.Nat.{ℕ, _+_, _-_, _≤_}
