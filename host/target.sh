@@ -6,11 +6,12 @@ stop() {
     exit 1
 }
 
-# need TOOL PACKAGE : the Debian package that has the tool.
+# need TOOL PACKAGE OPTION.. : the Debian package that has the tool, and how it is installed. Another install is waited for.
 need() {
     command -v "$1" >/dev/null && return
     [ "$(id -u)" = 0 ] || stop "$1 is missing: install the package $2"
-    { apt-get update -q && apt-get install -y -q "$2"; } >&2 || stop "could not install the package $2"
+    { apt-get update -q && apt-get install -y -q -o DPkg::Lock::Timeout=300 "${@:2}"; } >&2 ||
+        stop "could not install the package $2"
 }
 
 if [ "$(uname -m)" = x86_64 ]; then
