@@ -33,22 +33,13 @@ fn read_record(fd: i32, path: &[u8], bytes: &mut [u8]) -> usize
     1 + io::read_full(fd, &mut bytes[1..end])
 }
 
-// Copies `from` to the bytes at `at`, where there is room.
-fn copy_to(out: &mut [u8], at: usize, from: &[u8])
-    requires { ⌜ at + length (now from) ≤ length (now out) ⌝ }
-{
-    let mut i: usize = 0;
-    while i < from.len() {
-        out[at + i] = from[i];
-        i += 1;
-    }
-}
-
-// Writes the collected output.
+// Writes the collected output; where that fails, says so on standard error.
 fn write_out(out: &[u8], used: usize)
     requires { ⌜ used ≤ length (now out) ⌝ }
 {
-    io::write_all(STDOUT_FILENO, &out[..used]);
+    if !io::write_all(STDOUT_FILENO, &out[..used]) {
+        os::fail(b"standard output");
+    }
 }
 
 fn write_rest(out: &[u8; OUT], used: usize)
@@ -87,7 +78,7 @@ fn play_next(fd: i32, path: &[u8], station: &mut [u8], out: &mut [u8; OUT], used
     let p = journal::play(station, &record[..n], &mut line);
     let length = p.length;
     let at = make_room(out, used, length);
-    copy_to(out, at, &line[..length]);
+    codes::put_bytes(out, at, &line[..length]);
     Step {
         used: at + length,
         more: p.good,

@@ -36,17 +36,14 @@ array-share-prefix-line c =
     let line = simp length-append at (ap length (p .ensures .0)) in
     omega (arith, p .ensures .1 .0 .0)
 
-slice-aggregate-copy-to : tie.Need-slice-aggregate-copy-to
-slice-aggregate-copy-to c =
+slice-aggregate-put-bytes : tie.Need-slice-aggregate-put-bytes
+slice-aggregate-put-bytes c =
     let p = c .before .before .before .before .before .before .before .play in
     let line = simp length-append at (ap length (p .ensures .0)) in
     sym (length-take-le (p .result .length) (p .last .1 .1 .0) (omega (arith, p .ensures .1 .0 .0)))
 
-copy-to-requires : tie.Need-copy-to-requires
-copy-to-requires c κs =
-    let p = c .before .before .before .before .before .before .before .play in
-    let line = simp length-append at (ap length (p .ensures .0)) in
-    omega (arith, c .before .before .make-room .ensures, length-take-le (p .result .length) (p .last .1 .1 .0) (omega (arith, p .ensures .1 .0 .0)))
+put-bytes-requires : tie.Need-put-bytes-requires
+put-bytes-requires c κs = search needs
 
 add-t27 : tie.Need-add-t27
 add-t27 c = search needs
@@ -69,8 +66,8 @@ play-next-spec =
     play-requires
     make-room-requires
     array-share-prefix-line
-    slice-aggregate-copy-to
-    copy-to-requires
+    slice-aggregate-put-bytes
+    put-bytes-requires
     add-t27
     same-length
     returns-2)
