@@ -1,6 +1,5 @@
 // Plays a journal on a fresh station and writes its lines: from standard input, or from the files that the arguments name,
 // one after the other; `-` is standard input.
-ghost use mathlib.Core.Path.{_≡_};
 ghost use Prim.Native.Nat.{_+_, _≤_};
 ghost use lib.ListN.{length};
 use libc::STDIN_FILENO;
@@ -9,28 +8,91 @@ use libc::STDOUT_FILENO;
 // Bytes of output that are collected before they are written.
 const OUT: usize = 16384;
 
-// How much output is collected, whether more of this file is to be read, and whether nothing was bad.
+// What of the input is read and not played yet, from `start` to `end`, and whether more may come.
+struct Window {
+    start: usize,
+    end: usize,
+    open: bool,
+}
+
+// How much output is collected, the input that is left, whether more of this file is to be played, and whether nothing was bad.
 struct Step {
     used: usize,
+    window: Window,
     more: bool,
     good: bool,
 }
 
-// Reads a record, as far as it goes, and answers how many bytes there are: none at the end.
-fn read_record(fd: i32, path: &[u8], bytes: &mut [u8]) -> usize
-    requires { ⌜ length (now bytes) ≡ 247 ⌝ }
-    ensures { λ r. ⌜ r ≤ 247 ⌝ }
+// How much output is collected, and whether nothing was bad.
+struct Played {
+    used: usize,
+    good: bool,
+}
+
+// Moves the bytes from `start` to `end` to the front.
+fn move_to_front(input: &mut [u8], start: usize, end: usize)
+    requires { ⌜ (start ≤ end) × (end ≤ length (now input)) ⌝ }
 {
-    let got = libc::read(fd, &mut bytes[..1]);
+    let mut i: usize = 0;
+    while i < end - start {
+        input[i] = input[start + i];
+        i += 1;
+    }
+}
+
+// Reads once, after what is left. A read that fails is named, and ends the input.
+fn read_more(fd: i32, path: &[u8], input: &mut [u8], start: usize, end: usize) -> Window
+    requires { ⌜ (start ≤ end) × (end ≤ length (now input)) ⌝ }
+    ensures { λ w. ⌜ (w .start ≤ w .end) × (w .end ≤ length (now (input .entry))) ⌝ }
+{
+    move_to_front(input, start, end);
+    let left = end - start;
+    let got = libc::read(fd, &mut input[left..]);
     if got < 0 {
         os::fail(path);
-        return 0;
     }
-    if got == 0 {
-        return 0;
+    let n = io::count(got, &input[left..]);
+    Window {
+        start: 0,
+        end: left + n,
+        open: 0 < n,
     }
-    let end = journal::record_length(bytes[0]);
-    1 + io::read_full(fd, &mut bytes[1..end])
+}
+
+// Whether the next record may not all be there yet.
+fn is_short(open: bool, start: usize, end: usize) -> bool
+    requires { ⌜ start ≤ end ⌝ }
+{
+    if open {
+        end - start < journal::RECORD
+    } else {
+        false
+    }
+}
+
+// Reads until the next record is all there, or the input ends. A read brings a byte at least, so that a record's length is enough.
+fn fill(fd: i32, path: &[u8], input: &mut [u8], w: Window) -> Window
+    requires { ⌜ (w .start ≤ w .end) × (w .end ≤ length (now input)) ⌝ }
+    ensures { λ v. ⌜ (v .start ≤ v .end) × (v .end ≤ length (now (input .entry))) ⌝ }
+{
+    let mut start = w.start;
+    let mut end = w.end;
+    let mut open = w.open;
+    let mut reads = journal::RECORD;
+    while reads > 0 && is_short(open, start, end) {
+        let v = read_more(fd, path, input, start, end);
+        start = v.start;
+        end = v.end;
+        open = v.open;
+        reads -= 1;
+    }
+    Window { start, end, open }
+}
+
+fn least(a: usize, b: usize) -> usize
+    ensures { λ r. ⌜ (r ≤ a) × (r ≤ b) ⌝ }
+{
+    if a < b { a } else { b }
 }
 
 // Writes the collected output; where that fails, says so on standard error.
@@ -61,26 +123,44 @@ fn make_room(out: &[u8], used: usize, n: usize) -> usize
 }
 
 // Plays one record, if there is one.
-fn play_next(fd: i32, path: &[u8], station: &mut [u8], out: &mut [u8; OUT], used: usize) -> Step
-    requires { ⌜ used ≤ 16384 ⌝ }
-    ensures { λ r. ⌜ r .used ≤ 16384 ⌝ }
+fn play_next(
+    fd: i32,
+    path: &[u8],
+    station: &mut [u8],
+    input: &mut [u8],
+    out: &mut [u8; OUT],
+    w: Window,
+    used: usize,
+) -> Step
+    requires { ⌜ (used ≤ 16384) × ((w .start ≤ w .end) × (w .end ≤ length (now input))) ⌝ }
+    ensures { λ r. ⌜ (r .used ≤ 16384) × ((r .window .start ≤ r .window .end) × (r .window .end ≤ length (now (input .entry)))) ⌝ }
 {
-    let mut record = [0u8; journal::RECORD];
-    let n = read_record(fd, path, &mut record);
-    if n == 0 {
+    let v = fill(fd, path, input, w);
+    let start = v.start;
+    let end = v.end;
+    let open = v.open;
+    if start == end {
         return Step {
             used: used,
+            window: v,
             more: false,
             good: true,
         };
     }
+    let next = start + least(journal::record_length(input[start]), end - start);
     let mut line = [0u8; journal::LINE];
-    let p = journal::play(station, &record[..n], &mut line);
+    let p = journal::play(station, &input[start..next], &mut line);
     let length = p.length;
     let at = make_room(out, used, length);
     codes::put_bytes(out, at, &line[..length]);
+    let left = Window {
+        start: next,
+        end,
+        open,
+    };
     Step {
         used: at + length,
+        window: left,
         more: p.good,
         good: p.good,
     }
@@ -88,26 +168,44 @@ fn play_next(fd: i32, path: &[u8], station: &mut [u8], out: &mut [u8; OUT], used
 
 // Plays a file to its end, or to what is bad. A proved loop has to end, so this one counts its records down from a number
 // that no file has.
-fn play_file(fd: i32, path: &[u8], station: &mut [u8], out: &mut [u8; OUT], start: usize) -> Step
-    requires { ⌜ start ≤ 16384 ⌝ }
+fn play_file(
+    fd: i32,
+    path: &[u8],
+    station: &mut [u8],
+    input: &mut [u8],
+    out: &mut [u8; OUT],
+    collected: usize,
+) -> Played
+    requires { ⌜ collected ≤ 16384 ⌝ }
     ensures { λ r. ⌜ r .used ≤ 16384 ⌝ }
 {
-    let mut used = start;
+    let mut used = collected;
+    let mut start: usize = 0;
+    let mut end: usize = 0;
+    let mut open = true;
     let mut more = true;
     let mut good = true;
     let mut left = u64::MAX;
     while left > 0 && more {
-        let s = play_next(fd, path, station, out, used);
+        let s = play_next(
+            fd,
+            path,
+            station,
+            input,
+            out,
+            Window { start, end, open },
+            used,
+        );
+        let w = s.window;
         used = s.used;
+        start = w.start;
+        end = w.end;
+        open = w.open;
         more = s.more;
         good = s.good;
         left -= 1;
     }
-    Step {
-        used: used,
-        more: false,
-        good: good,
-    }
+    Played { used, good }
 }
 
 fn is_dash(path: &[u8]) -> bool {
@@ -119,7 +217,13 @@ fn is_dash(path: &[u8]) -> bool {
 }
 
 // Plays the file that an argument names; one that cannot be opened is named, and ends the run.
-fn play_argument(i: usize, station: &mut [u8], out: &mut [u8; OUT], used: usize) -> Step
+fn play_argument(
+    i: usize,
+    station: &mut [u8],
+    input: &mut [u8],
+    out: &mut [u8; OUT],
+    used: usize,
+) -> Played
     requires { ⌜ used ≤ 16384 ⌝ }
     ensures { λ r. ⌜ r .used ≤ 16384 ⌝ }
 {
@@ -127,31 +231,23 @@ fn play_argument(i: usize, station: &mut [u8], out: &mut [u8; OUT], used: usize)
     let n = os::arg(i, &mut path);
     if os::errno() != 0 {
         os::fail(b"argument");
-        return Step {
-            used: used,
-            more: false,
-            good: false,
-        };
+        return Played { used, good: false };
     }
     if is_dash(&path[..n]) {
-        return play_file(STDIN_FILENO, &path[..n], station, out, used);
+        return play_file(STDIN_FILENO, &path[..n], station, input, out, used);
     }
     let fd = os::open_read(&path[..n]);
     if fd < 0 {
         os::fail(&path[..n]);
-        return Step {
-            used: used,
-            more: false,
-            good: false,
-        };
+        return Played { used, good: false };
     }
-    let s = play_file(fd, &path[..n], station, out, used);
+    let s = play_file(fd, &path[..n], station, input, out, used);
     libc::close(fd);
     s
 }
 
 // Plays the files that the arguments name, until one is bad, and answers how much output is collected.
-fn play_arguments(station: &mut [u8], out: &mut [u8; OUT]) -> usize
+fn play_arguments(station: &mut [u8], input: &mut [u8], out: &mut [u8; OUT]) -> usize
     ensures { λ r. ⌜ r ≤ 16384 ⌝ }
 {
     let count = os::arg_count();
@@ -159,7 +255,7 @@ fn play_arguments(station: &mut [u8], out: &mut [u8; OUT]) -> usize
     let mut good = true;
     let mut i: usize = 1;
     while i < count && good {
-        let s = play_argument(i, station, out, used);
+        let s = play_argument(i, station, input, out, used);
         used = s.used;
         good = s.good;
         i += 1;
@@ -167,20 +263,21 @@ fn play_arguments(station: &mut [u8], out: &mut [u8; OUT]) -> usize
     used
 }
 
-fn play_all(station: &mut [u8], out: &mut [u8; OUT]) -> usize
+fn play_all(station: &mut [u8], input: &mut [u8], out: &mut [u8; OUT]) -> usize
     ensures { λ r. ⌜ r ≤ 16384 ⌝ }
 {
     if os::arg_count() < 2 {
-        let s = play_file(STDIN_FILENO, b"standard input", station, out, 0);
+        let s = play_file(STDIN_FILENO, b"standard input", station, input, out, 0);
         return s.used;
     }
-    play_arguments(station, out)
+    play_arguments(station, input, out)
 }
 
 fn main() {
     let mut memory = [0u8; station::STATION];
     station::llinkhiro_fresh(&mut memory);
+    let mut input = io::large_buffer();
     let mut out = [0u8; OUT];
-    let used = play_all(&mut memory, &mut out);
+    let used = play_all(&mut memory, &mut input, &mut out);
     write_rest(&out, used);
 }

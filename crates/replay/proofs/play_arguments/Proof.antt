@@ -7,10 +7,10 @@ use Rattle.replay.proofs.play_arguments.Statement.{statement}
 use Rattle.replay.proofs.play_arguments.Tie as tie
 
 abbrev Inv-loop : tie.InvT-loop
-Inv-loop station₀ out₀ count used₀ good₀ i₀ station out used good i = (used ≤ 16384) × (length station ≡ length station₀)
+Inv-loop station₀ input₀ out₀ count used₀ good₀ i₀ station input out used good i = (used ≤ 16384) × (length station ≡ length station₀) × (length input ≡ length input₀)
 
 abbrev μ-loop : tie.MeasureT-loop
-μ-loop station₀ out₀ count used₀ good₀ i₀ station out used good i = count - i
+μ-loop station₀ input₀ out₀ count used₀ good₀ i₀ station input out used good i = count - i
 
 arg-count-requires : tie.Need-arg-count-requires Inv-loop μ-loop
 arg-count-requires c κs = search needs
@@ -33,11 +33,17 @@ loop-again c = search needs
 same-length : tie.Need-same-length Inv-loop μ-loop
 same-length c = search needs
 
+same-length-2 : tie.Need-same-length-2 Inv-loop μ-loop
+same-length-2 c = search needs
+
 returns : tie.Need-returns Inv-loop μ-loop
 returns c = search needs
 
-same-length-2 : tie.Need-same-length-2 Inv-loop μ-loop
-same-length-2 c = search needs
+same-length-3 : tie.Need-same-length-3 Inv-loop μ-loop
+same-length-3 c = search needs
+
+same-length-4 : tie.Need-same-length-4 Inv-loop μ-loop
+same-length-4 c = search needs
 
 returns-2 : tie.Need-returns-2 Inv-loop μ-loop
 returns-2 c = search needs
@@ -55,6 +61,8 @@ play-arguments-spec =
     loop-less
     loop-again
     same-length
-    returns
     same-length-2
+    returns
+    same-length-3
+    same-length-4
     returns-2)

@@ -1,16 +1,18 @@
 -- It is safe and ends: the measure is how many records may still come.
 use lib.ListN.{length}
-use mathlib.Core.Path.{_≡_}
 use Prim.Native.Nat.{_≤_}
+use mathlib.Core.Path.{_≡_}
 use borrow.Author.Needs.{needs}
 use Rattle.replay.proofs.play_file.Statement.{statement}
 use Rattle.replay.proofs.play_file.Tie as tie
 
 abbrev Inv-loop : tie.InvT-loop
-Inv-loop fd path station₀ out₀ start used₀ more₀ good₀ left₀ station out used more good left = (used ≤ 16384) × (length station ≡ length station₀)
+Inv-loop fd path station₀ input₀ out₀ collected used₀ start₀ end₀ open₀ more₀ good₀ left₀ station input out used start end «open» more good left =
+    (used ≤ 16384) × (length station ≡ length station₀) × (start ≤ end) × (end ≤ length input) × (length input ≡ length input₀)
 
 abbrev μ-loop : tie.MeasureT-loop
-μ-loop fd path station₀ out₀ start used₀ more₀ good₀ left₀ station out used more good left = left
+μ-loop fd path station₀ input₀ out₀ collected used₀ start₀ end₀ open₀ more₀ good₀ left₀ station input out used start end «open» more good left =
+    left
 
 loop-holds : tie.Need-loop-holds Inv-loop μ-loop
 loop-holds c = search needs
@@ -30,11 +32,17 @@ loop-again c = search needs
 same-length : tie.Need-same-length Inv-loop μ-loop
 same-length c = search needs
 
+same-length-2 : tie.Need-same-length-2 Inv-loop μ-loop
+same-length-2 c = search needs
+
 returns : tie.Need-returns Inv-loop μ-loop
 returns c = search needs
 
-same-length-2 : tie.Need-same-length-2 Inv-loop μ-loop
-same-length-2 c = search needs
+same-length-3 : tie.Need-same-length-3 Inv-loop μ-loop
+same-length-3 c = search needs
+
+same-length-4 : tie.Need-same-length-4 Inv-loop μ-loop
+same-length-4 c = search needs
 
 returns-2 : tie.Need-returns-2 Inv-loop μ-loop
 returns-2 c = search needs
@@ -51,6 +59,8 @@ play-file-spec =
     loop-less
     loop-again
     same-length
-    returns
     same-length-2
+    returns
+    same-length-3
+    same-length-4
     returns-2)

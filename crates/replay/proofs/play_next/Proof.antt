@@ -1,4 +1,4 @@
--- It is safe: a line is no longer than its memory.
+-- It is safe: a record stands in the input, and a line is no longer than its memory.
 use lib.ListN.{length, length-append}
 use lib.Seq.{length-take-le}
 use mathlib.Core.Path.{sym, ap}
@@ -7,22 +7,38 @@ use borrow.Author.Needs.{needs}
 use Rattle.replay.proofs.play_next.Statement.{statement}
 use Rattle.replay.proofs.play_next.Tie as tie
 
-slice-aggregate-read-record : tie.Need-slice-aggregate-read-record
-slice-aggregate-read-record c = search needs
+fill-requires : tie.Need-fill-requires
+fill-requires c κs = search needs
 
-read-record-requires : tie.Need-read-record-requires
-read-record-requires c κs = search needs
+same-length : tie.Need-same-length
+same-length c = search needs
 
 returns : tie.Need-returns
 returns c = search needs
 
-array-share-prefix-record : tie.Need-array-share-prefix-record
-array-share-prefix-record c = search needs
+slice-read-record-length : tie.Need-slice-read-record-length
+slice-read-record-length c = search needs
 
-slice-aggregate-play : tie.Need-slice-aggregate-play
-slice-aggregate-play c =
-    let r = c .before .before .before .before .read-record in
-    sym (length-take-le (r .result) (r .last .1 .1 .0) (omega arith))
+record-length-requires : tie.Need-record-length-requires
+record-length-requires c κs = search needs
+
+sub-least : tie.Need-sub-least
+sub-least c = search needs
+
+least-requires : tie.Need-least-requires
+least-requires c κs = search needs
+
+add-next : tie.Need-add-next
+add-next c = search needs
+
+sub-play : tie.Need-sub-play
+sub-play c = search needs
+
+part-play-start : tie.Need-part-play-start
+part-play-start c = search needs
+
+part-play-end : tie.Need-part-play-end
+part-play-end c = search needs
 
 play-requires : tie.Need-play-requires
 play-requires c κs = search needs
@@ -45,11 +61,14 @@ slice-aggregate-put-bytes c =
 put-bytes-requires : tie.Need-put-bytes-requires
 put-bytes-requires c κs = search needs
 
-add-t27 : tie.Need-add-t27
-add-t27 c = search needs
+add-t25 : tie.Need-add-t25
+add-t25 c = search needs
 
-same-length : tie.Need-same-length
-same-length c = search needs
+same-length-2 : tie.Need-same-length-2
+same-length-2 c = search needs
+
+same-length-3 : tie.Need-same-length-3
+same-length-3 c = search needs
 
 returns-2 : tie.Need-returns-2
 returns-2 c = search needs
@@ -58,16 +77,23 @@ pub play-next-spec : {M : Type 1} → statement M
 play-next-spec =
     tie.close
     (tie.spec
-    slice-aggregate-read-record
-    read-record-requires
+    fill-requires
+    same-length
     returns
-    array-share-prefix-record
-    slice-aggregate-play
+    slice-read-record-length
+    record-length-requires
+    sub-least
+    least-requires
+    add-next
+    sub-play
+    part-play-start
+    part-play-end
     play-requires
     make-room-requires
     array-share-prefix-line
     slice-aggregate-put-bytes
     put-bytes-requires
-    add-t27
-    same-length
+    add-t25
+    same-length-2
+    same-length-3
     returns-2)
