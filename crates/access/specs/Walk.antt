@@ -1,13 +1,12 @@
 -- What the steps of the code leave, said of the definitions. No contract of a public function cites this page.
 use mathlib.Core.Path.{_≡_}
 use mathlib.Core.Bool.{cond}
-use mathlib.Core.List.{List, [], _++_}
-use Prim.Native.Nat.{ℕ, _+_, _-_, _≤_}
-use lib.ListN.{length, drop, replicate}
+use mathlib.Core.List.{List, []}
+use Prim.Native.Nat.{ℕ, _+_, _≤_}
+use lib.ListN.{length, drop}
 use Rattle.codes.specs.Code.{readTimes, writeAll}
 use Rattle.codes.specs.Number.{valueOr, put}
 use Rattle.drive.specs.Faults.{buffer}
-use Rattle.catalogue.specs.declared.Row.{Row}
 use Rattle.blocks.specs.Block.{Block, block}
 use Rattle.blocks.specs.Page.{blockBytes}
 use Rattle.blocks.specs.Request.{Request, request}
@@ -17,13 +16,8 @@ use Rattle.access.specs.declared.reply.Written.{Written}
 use Rattle.access.specs.declared.change.Done.{Done}
 use Rattle.access.specs.declared.change.Changes.{Changes}
 use Rattle.access.specs.Address.{errorBlock, emptyBlock}
-use Rattle.access.specs.Read.{elementsFrom}
 use Rattle.access.specs.Change.{Changed, ChangedAll}
 use Rattle.access.specs.Work.{Worked}
-
--- n elements of a row in an array, 0 after them
-abbrev pub gathered : Row → ℕ → ℕ → List ℕ → List ℕ
-gathered r i n p = elementsFrom r i n p ++ replicate (buffer - n) 0
 
 -- the block b is put at a place of l, which is then m; w says where the next goes, and whether b was an error
 pub record Wrote (l m : List ℕ) (at : ℕ) (b : Block) (w : Written) : Type 0 where

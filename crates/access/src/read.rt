@@ -2,7 +2,7 @@
 ghost use mathlib.Core.Path.{_≡_};
 ghost use mathlib.Core.Bool.{true};
 ghost use Prim.Native.Nat.{_+_, _*_, _≤_};
-ghost use lib.ListN.{length};
+ghost use lib.ListN.{length, take};
 ghost use Rattle.codes.specs.Code.{readable};
 ghost use Rattle.drive.specs.Faults.{buffer};
 ghost use Rattle.blocks.specs.Block.{blockLimit};
@@ -11,7 +11,7 @@ ghost use Rattle.blocks.specs.Place.{headerOf, walk};
 ghost use Rattle.catalogue.specs.Element.{sizeCode};
 ghost use Rattle.access.specs.Read.{elementsFrom, fitted, readBlock, readBlocks};
 ghost use Rattle.access.specs.Work.{read};
-ghost use Rattle.access.specs.Walk.{gathered, Wrote, WroteAll, requestIn, leaves};
+ghost use Rattle.access.specs.Walk.{Wrote, WroteAll, requestIn, leaves};
 use super::Checked;
 use super::reply;
 use super::reply::Written;
@@ -23,18 +23,16 @@ use catalogue::Row;
 // No parameter has more elements than the fault buffer.
 const MOST: usize = drive::faults::BUFFER;
 
-// n elements of a row from element i on.
-fn gather(part: &[u8], r: Row, i: u16, n: u16) -> [u32; MOST]
-    requires { ⌜ i + n ≤ buffer ⌝ }
-    ensures { λ v. ⌜ v ≡ gathered r i n (now (part .entry)) ⌝ }
+// Puts n elements of a row, from element i on, at the start of `values`.
+fn gather(part: &[u8], r: Row, i: u16, n: u16, values: &mut [u32; MOST])
+    requires { ⌜ (i + n ≤ buffer) × (length (now values) ≡ buffer) ⌝ }
+    ensures { λ q. ⌜ (length (now (values .exit)) ≡ buffer) × (take n (now (values .exit)) ≡ elementsFrom r i n (now (part .entry))) ⌝ }
 {
-    let mut values = [0u32; MOST];
     let mut j: u16 = 0;
     while j < n {
         values[j as usize] = catalogue::element(part, r, i + j);
         j += 1;
     }
-    values
 }
 
 // A block of values goes in only where it leaves 4 bytes for each address after it.
@@ -56,7 +54,8 @@ fn put_elements(
     if blocks::BLOCK_LIMIT < at + size + 4 * after {
         return reply::put_failed(out, at, 0x15);
     }
-    let values = gather(part, r, i, n);
+    let mut values = [0u32; MOST];
+    gather(part, r, i, n, &mut values);
     blocks::writer::put_block(out, at, f, &values[..n as usize]);
     Written {
         next: at + size,

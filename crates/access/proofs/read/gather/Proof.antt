@@ -1,24 +1,24 @@
 -- The first j elements are gathered.
-use mathlib.Core.Path.{_≡_, refl, _∙_, ap}
-use mathlib.Core.List.{List}
-use Prim.Native.Nat.{ℕ, _-_, _≤_}
+use mathlib.Core.Path.{_≡_, refl, sym, _∙_, ap}
+use Prim.Native.Nat.{ℕ, _+_, _-_, _≤_}
 use native.Mathlib.Omega.{arith}
-use lib.ListN.{set}
+use lib.ListN.{length, set, take, length-set}
 use denote.Ref.{now}
-use Rattle.access.specs.Walk.{gathered}
+use Rattle.drive.specs.Faults.{buffer}
+use Rattle.access.specs.Read.{elementsFrom}
 use Rattle.access.proofs.Gathered.{gather-next}
 use borrow.Author.Needs.{needs}
 use Rattle.access.proofs.read.gather.Statement.{statement}
 use Rattle.access.proofs.read.gather.Tie as tie
 
 abbrev Inv-loop : tie.InvT-loop
-Inv-loop part r i n values₀ j₀ values j = (j ≤ n) × (values ≡ gathered r i j part)
+Inv-loop part r i n values₀ j₀ values j = (j ≤ n) × (length values ≡ buffer) × (take j values ≡ elementsFrom r i j part)
 
 abbrev μ-loop : tie.MeasureT-loop
 μ-loop part r i n values₀ j₀ values j = n - j
 
 loop-holds : tie.Need-loop-holds Inv-loop μ-loop
-loop-holds c = (search needs, refl)
+loop-holds c = (search needs, search needs, refl)
 
 add-element : tie.Need-add-element Inv-loop μ-loop
 add-element c = search needs
@@ -32,8 +32,8 @@ cast-values c = search needs
 mul-values : tie.Need-mul-values Inv-loop μ-loop
 mul-values c = search needs
 
-array-write-values : tie.Need-array-write-values Inv-loop μ-loop
-array-write-values c = search needs
+element-write-values : tie.Need-element-write-values Inv-loop μ-loop
+element-write-values c = search needs
 
 add-j : tie.Need-add-j Inv-loop μ-loop
 add-j c = search needs
@@ -46,9 +46,9 @@ loop-again c =
     let a = c .before .before .before .before .args in
     let l = c .before .before .loop in (
       search needs,
-      ap (λ (v : List ℕ). set v (l .j) (c .element .result)) (l .inv .1)
-          ∙ (ap (set (gathered (a .r) (a .i) (l .j) (now (a .part))) (l .j)) (c .element .ensures)
-          ∙ gather-next (a .r) (now (a .part)) (a .i) (l .j) (omega arith)),
+      simp length-set (l .inv .1),
+      ap (λ (x : ℕ). take (l .j + 1) (set (l .values) (l .j) x)) (c .element .ensures)
+          ∙ gather-next (a .r) (now (a .part)) (a .i) (l .j) (l .values) (omega arith) (l .inv .2),
     )
 
 returns : tie.Need-returns Inv-loop μ-loop
@@ -56,7 +56,7 @@ returns c =
     let a = c .before .before .before .args in
     let l = c .before .loop in
     let e : l .j ≡ a .n = omega arith in
-    l .inv .1 ∙ ap (λ (k : ℕ). gathered (a .r) (a .i) k (now (a .part))) e
+    (l .inv .1, ap (λ (k : ℕ). take k (l .values)) (sym e) ∙ (l .inv .2 ∙ ap (λ (k : ℕ). elementsFrom (a .r) (a .i) k (now (a .part))) e))
 
 pub gather-spec : {M : Type 1} → statement M
 gather-spec =
@@ -69,7 +69,7 @@ gather-spec =
     element-requires
     cast-values
     mul-values
-    array-write-values
+    element-write-values
     add-j
     loop-less
     loop-again

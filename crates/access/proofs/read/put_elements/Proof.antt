@@ -1,13 +1,11 @@
 -- A block that fits is put, with the elements gathered for it; else the error 0x15.
 use mathlib.Core.Path.{sym, _∙_, ap, subst}
-use mathlib.Core.List.{List}
-use Prim.Native.Nat.{ℕ}
 use native.Mathlib.Omega.{arith}
 use denote.Ref.{now}
-use lib.ListN.{length, take}
+use lib.ListN.{length}
 use Rattle.blocks.specs.Block.{Block}
 use Rattle.access.specs.Walk.{Wrote}
-use Rattle.access.proofs.Gathered.{elements-length, gather-taken}
+use Rattle.access.proofs.Gathered.{elements-length}
 use Rattle.access.proofs.Room.{values-few, elements-unfit, elements-written}
 use borrow.Author.Needs.{needs}
 use Rattle.access.proofs.read.put_elements.Statement.{statement}
@@ -54,8 +52,8 @@ array-share-prefix-values c = search needs
 
 slice-aggregate-put-block : tie.Need-slice-aggregate-put-block
 slice-aggregate-put-block c =
-    let a = c .before .before .before .before .before .before .before .before .args in
-    sym (ap (λ (v : List ℕ). length (take (a .n) v)) (c .before .before .gather .ensures) ∙ (ap length (gather-taken (a .r) (now (a .part)) (a .i) (a .n)) ∙ elements-length (a .r) (now (a .part)) (a .i) (a .n)))
+    let a = c .before .before .before .before .before .before .before .before .before .args in
+    sym (ap length (c .before .before .gather .ensures .1) ∙ elements-length (a .r) (now (a .part)) (a .i) (a .n))
 
 put-block-requires : tie.Need-put-block-requires
 put-block-requires c κs = search needs
@@ -68,12 +66,12 @@ same-length-2 c = search needs
 
 returns-2 : tie.Need-returns-2
 returns-2 c =
-    let a = c .before .before .before .before .before .before .before .before .before .before .before .args in
-    let z = c .before .before .before .before .before .before .before .block-size in
-    let k = c .before .before .before .before .before .before .before .before .size-code in
+    let a = c .before .before .before .before .before .before .before .before .before .before .before .before .args in
+    let z = c .before .before .before .before .before .before .before .before .block-size in
+    let k = c .before .before .before .before .before .before .before .before .before .size-code in
     elements-written (a .r) (a .i) (a .n) (now (a .part)) (a .at) (a .after) (k .result) (z .result) (k .ensures) (z .ensures)
     (now (a .out)) _ _ (omega arith)
-    (ap (take (a .n)) (c .before .before .before .before .before .gather .ensures) ∙ gather-taken (a .r) (now (a .part)) (a .i) (a .n))
+    (c .before .before .before .before .before .gather .ensures .1)
     (omega arith)
     (c .before .before .put-block .ensures)
 
