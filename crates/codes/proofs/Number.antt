@@ -1,13 +1,13 @@
 -- Numbers at a place: how large they are, where there are none, and that what is put is got back and no other changes.
 use mathlib.Core.Path.{_≡_, refl, sym, _∙_, ap}
 use mathlib.Core.Bool.{Bool, true, false, cond}
-use mathlib.Core.List.{List, [], _++_, append-assoc}
+use mathlib.Core.List.{List, [], _++_, append-nil, append-assoc}
 use Prim.Native.Nat.{ℕ, zero, suc, _+_, _≤_, _<_, _^_}
 use native.Mathlib.Omega.{arith}
 use native.Mathlib.Nat.{one-le-pow, zero-add}
 use native.Mathlib.Decide.{decLe}
 use lib.ListN.{length, getD, take, drop, length-drop, drop-of-length-le, take-append-drop}
-use lib.Seq.{length-take-le, take-at, drop-at, drop-append-le}
+use lib.Seq.{length-take-le, take-at, drop-at, drop-append-le, drop-drop}
 use lib.Dec.{leb}
 use borrow.Author.Tests.{le-leb, lt-leb}
 use Rattle.codes.specs.Code.{Got, got, bad, Code, word}
@@ -90,6 +90,16 @@ number-front w k p x y h =
     let q = drop k p in
     let split : (z : List ℕ) → drop k (p ++ z) ≡ take w q ++ (drop w q ++ z) = λ z. drop-append-le k p z (omega arith) ∙ (ap (λ (l : List ℕ). l ++ z) (sym (take-append-drop w q)) ∙ append-assoc (take w q) (drop w q) z) in
     rw (split x, split y) (ap (λ (v : ℕ). cond (leb w 4) v 0) (front-only (word w) (word-sound w) w (word-length w) 0 (take w q) (drop w q ++ x) (drop w q ++ y) (length-take-le w q (omega (arith, length-drop k p)))))
+
+-- a number in a part of a list is the list's own
+pub number-within : (w : ℕ) (s : List ℕ) (at n k : ℕ) → k + w ≤ n → at + n ≤ length s → numberAt w (take n (drop at s)) k ≡ numberAt w s (at + k)
+unfolding numberAt
+number-within w s at n k h room =
+    let d = drop at s in
+    let long : length (take n d) ≡ n = length-take-le n d (omega (arith, length-drop at s)) in
+    ap (λ (l : List ℕ). numberAt w l k) (sym (append-nil (take n d)))
+    ∙ (number-front w k (take n d) [] (drop n d) (omega arith)
+    ∙ (ap (λ (l : List ℕ). numberAt w l k) (take-append-drop n d) ∙ rw (drop-drop k at s) refl))
 
 -- and a number elsewhere is as it was
 module _ (w : ℕ) (l : List ℕ) (at : ℕ) (bs : List ℕ) (k : ℕ) where

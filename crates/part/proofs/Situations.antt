@@ -10,7 +10,9 @@ use lib.ListN.{length, getD, take, drop, drop-of-length-le}
 use lib.Seq.{drop-cons, drop-drop}
 use borrow.Author.Tests.{eq-eqb, ne-eqb, eqb-true}
 use borrow.Table.Steps.{cases}
-use Rattle.drive.specs.Faults.{situations, codes, isIn, zeros, proper, allProper}
+use Rattle.drive.specs.Faults.{situations, codes, buffer, isIn, zeros, proper, allProper}
+use Rattle.part.specs.Record.{wordsAt}
+use Rattle.part.proofs.Words.{words-within}
 
 module _ (s : List ℕ) (i : ℕ) (h : i < length s) where
   pub zeros-here : zeros (drop i s) ≡ (eqb (getD s i 0) 0 && zeros (drop (i + 1) s))
@@ -83,3 +85,9 @@ module _ (b : List ℕ) (k : ℕ) (h : k < situations) where
 
   pub situation-next : proper (take codes (drop (k * codes) b)) ≡ true → from-situation b k ≡ from-situation b (k + 1)
   situation-next e = one-more ∙ rw e
+
+-- the k-th situation of a buffer that stands at a place
+pub situation-is : (p : List ℕ) (at k : ℕ) → k < situations → proper (take codes (drop (k * codes) (wordsAt buffer p at))) ≡ proper (wordsAt codes p (at + k * (codes * 2)))
+situation-is p at k h =
+    let e : at + k * codes * 2 ≡ at + k * (codes * 2) = omega arith in
+    ap proper (words-within codes (k * codes) buffer p at (omega arith) ∙ ap (wordsAt codes p) e)

@@ -29,23 +29,42 @@ words-last (suc n) p at =
     let e : at + suc n * 2 ≡ at + 2 + n * 2 = omega arith in
     rw e (ap (λ (l : List ℕ). numberAt 2 p at ∷ l) (words-last n p (at + 2)))
 
--- a buffer of which i codes are read; the others are 0 yet
-abbrev pub read-so-far : List ℕ → ℕ → ℕ → List ℕ
-read-so-far p at i = wordsAt i p at ++ replicate (buffer - i) 0
+-- n codes of which i are read; the others are 0 yet
+abbrev pub read-so-far : ℕ → List ℕ → ℕ → ℕ → List ℕ
+read-so-far n p at i = wordsAt i p at ++ replicate (n - i) 0
 
-module _ (p : List ℕ) (at : ℕ) where
-  pub words-next : (i x : ℕ) → i < buffer → x ≡ numberAt 2 p (at + i * 2) → set (read-so-far p at i) i x ≡ read-so-far p at (i + 1)
+module _ (n : ℕ) (p : List ℕ) (at : ℕ) where
+  pub words-next : (i x : ℕ) → i < n → x ≡ numberAt 2 p (at + i * 2) → set (read-so-far n p at i) i x ≡ read-so-far n p at (i + 1)
   words-next i x h e =
-      let zeros = replicate {A = ℕ} (buffer - (i + 1)) 0 in
-      let k : buffer - i ≡ suc (buffer - (i + 1)) = omega arith in
-      ap (λ (n : ℕ). set (wordsAt i p at ++ replicate n 0) i x) k
+      let zeros = replicate {A = ℕ} (n - (i + 1)) 0 in
+      let k : n - i ≡ suc (n - (i + 1)) = omega arith in
+      ap (λ (j : ℕ). set (wordsAt i p at ++ replicate j 0) i x) k
       ∙ (set-at (wordsAt i p at) 0 zeros x i (words-length i p at)
       ∙ (sym (append-snoc (wordsAt i p at) x zeros)
       ∙ (ap (λ (y : ℕ). (wordsAt i p at ++ (y ∷ [])) ++ zeros) e
-      ∙ (ap (λ (l : List ℕ). l ++ zeros) (words-last i p at) ∙ ap (λ (n : ℕ). wordsAt n p at ++ zeros) (sym (add-one i))))))
+      ∙ (ap (λ (l : List ℕ). l ++ zeros) (words-last i p at) ∙ ap (λ (j : ℕ). wordsAt j p at ++ zeros) (sym (add-one i))))))
 
-  pub words-all : read-so-far p at buffer ≡ wordsAt buffer p at
-  words-all = append-nil (wordsAt buffer p at)
+  pub words-all : (i : ℕ) → i ≡ n → read-so-far n p at i ≡ wordsAt n p at
+  words-all i e =
+      let k : n - i ≡ 0 = omega arith in
+      ap (λ (j : ℕ). wordsAt i p at ++ replicate j 0) k ∙ (append-nil (wordsAt i p at) ∙ ap (λ (j : ℕ). wordsAt j p at) e)
+
+-- some words of a run are a run of their own
+take-words : (k n : ℕ) (p : List ℕ) (at : ℕ) → k ≤ n → take k (wordsAt n p at) ≡ wordsAt k p at
+take-words zero n p at h = refl
+take-words (suc k) zero p at h = absurd (omega arith)
+take-words (suc k) (suc n) p at h = ap (λ (l : List ℕ). numberAt 2 p at ∷ l) (take-words k n p (at + 2) (omega arith))
+
+drop-words : (k n : ℕ) (p : List ℕ) (at : ℕ) → k ≤ n → drop k (wordsAt n p at) ≡ wordsAt (n - k) p (at + k * 2)
+drop-words zero n p at h = let e : at + 0 * 2 ≡ at = omega arith in let f : n - 0 ≡ n = omega arith in rw (e, f)
+drop-words (suc k) zero p at h = absurd (omega arith)
+drop-words (suc k) (suc n) p at h =
+    let e : at + 2 + k * 2 ≡ at + suc k * 2 = omega arith in
+    let f : n - k ≡ suc n - suc k = omega arith in
+    drop-words k n p (at + 2) (omega arith) ∙ (ap (wordsAt (n - k) p) e ∙ ap (λ (j : ℕ). wordsAt j p (at + suc k * 2)) f)
+
+pub words-within : (j k n : ℕ) (p : List ℕ) (at : ℕ) → k + j ≤ n → take j (drop k (wordsAt n p at)) ≡ wordsAt j p (at + k * 2)
+words-within j k n p at h = ap (take j) (drop-words k n p at (omega arith)) ∙ take-words j (n - k) p (at + k * 2) (omega arith)
 
 abbrev pub Words : List ℕ → Type 0
 Words = AllOf (λ (x : ℕ). x < 65536)

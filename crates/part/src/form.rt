@@ -1,13 +1,13 @@
 // Whether a part is well-formed: each part of the rule is looked at once, in its order.
 ghost use mathlib.Core.Path.{_≡_};
 ghost use mathlib.Core.Bool.{true, _&&_};
-ghost use Prim.Native.Nat.{ℕ};
+ghost use Prim.Native.Nat.{ℕ, _+_, _*_, _≤_};
 ghost use lib.ListN.{length, drop};
-ghost use Rattle.drive.specs.Faults.{isIn, zeros, proper, properFaults};
+ghost use Rattle.drive.specs.Faults.{codes, isIn, zeros, proper, properFaults};
 ghost use Rattle.catalogue.specs.Table.{rows};
 ghost use Rattle.catalogue.specs.Element.{inside};
 ghost use Rattle.part.specs.Layout.{partSize};
-ghost use Rattle.part.specs.Record.{faultsOf};
+ghost use Rattle.part.specs.Record.{wordsAt, faultsOf};
 ghost use Rattle.part.specs.WellFormed.{isState, everyRow, limitsFit, fixedFit, waitingFits, unusedFit, wellFormed};
 use catalogue::Kind;
 use catalogue::Row;
@@ -166,15 +166,31 @@ fn situation_fits(s: &[u16]) -> bool
     true
 }
 
+// The codes of the situation whose bytes begin at `at`.
+fn codes_at(part: &[u8], at: usize) -> [u16; drive::faults::CODES]
+    requires { ⌜ at + codes * 2 ≤ length (now part) ⌝ }
+    ensures { λ r. ⌜ r ≡ wordsAt codes (now (part .entry)) at ⌝ }
+{
+    let end = at + drive::faults::CODES * 2;
+    let bytes = &part[at..end];
+    let mut s = [0u16; drive::faults::CODES];
+    let mut i: usize = 0;
+    while i < drive::faults::CODES {
+        s[i] = codes::word_at(bytes, i * 2);
+        i += 1;
+    }
+    s
+}
+
 fn situations_fit(part: &[u8]) -> bool
+    requires { ⌜ length (now part) ≡ partSize ⌝ }
     ensures { λ q. ⌜ q ≡ properFaults (faultsOf (now (part .entry))) ⌝ }
 {
-    let b = super::record::codes_of(part);
     let mut k: usize = 0;
     while k < drive::faults::SITUATIONS {
-        let start = k * drive::faults::CODES;
-        let end = start + drive::faults::CODES;
-        if !situation_fits(&b[start..end]) {
+        let at = catalogue::AT_947 as usize + k * (drive::faults::CODES * 2);
+        let s = codes_at(part, at);
+        if !situation_fits(&s) {
             return false;
         }
         k += 1;

@@ -53,7 +53,7 @@ fn speed_at(part: &[u8], at: usize) -> N2
 }
 
 // The codes of every fault situation.
-pub(crate) fn codes_of(part: &[u8]) -> [u16; drive::faults::BUFFER]
+fn codes_of(part: &[u8]) -> [u16; drive::faults::BUFFER]
     ensures { λ r. ⌜ r ≡ wordsAt buffer (now (part .entry)) (offsetOf 947) ⌝ }
 {
     let mut b = [0u16; drive::faults::BUFFER];

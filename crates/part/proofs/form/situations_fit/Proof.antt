@@ -1,9 +1,11 @@
 -- The situations before k fit.
-use Rattle.part.proofs.Situations.{from-situation, situation-unfit, situation-next}
-use Rattle.drive.specs.Faults.{situations, codes, proper, allProper}
+use Rattle.part.proofs.Situations.{from-situation, situation-is, situation-unfit, situation-next}
+use Rattle.part.specs.Record.{wordsAt}
+use Rattle.drive.specs.Faults.{situations, buffer, proper}
+use Rattle.catalogue.specs.Table.{rows, parameterBytes, findOf, offsetOf}
 use borrow.Author.Tests.{not-true, not-false}
-use lib.ListN.{take, drop}
-use Prim.Native.Nat.{ℕ, _+_, _*_, _-_, _≤_}
+use denote.Ref.{now}
+use Prim.Native.Nat.{_-_, _≤_}
 use native.Mathlib.Omega.{arith}
 use mathlib.Core.Path.{_≡_, refl, sym, _∙_, ap}
 use borrow.Author.Needs.{needs}
@@ -11,45 +13,43 @@ use Rattle.part.proofs.form.situations_fit.Statement.{statement}
 use Rattle.part.proofs.form.situations_fit.Tie as tie
 
 abbrev Inv-loop : tie.InvT-loop
-Inv-loop part b k₀ k = (k ≤ situations) × (from-situation b 0 ≡ from-situation b k)
+Inv-loop part k₀ k = (k ≤ situations) × (from-situation (wordsAt buffer part (offsetOf 947)) 0 ≡ from-situation (wordsAt buffer part (offsetOf 947)) k)
 
 abbrev μ-loop : tie.MeasureT-loop
-μ-loop part b k₀ k = situations - k
-
-codes-of-requires : tie.Need-codes-of-requires Inv-loop μ-loop
-codes-of-requires c κs = search needs
+μ-loop part k₀ k = situations - k
 
 loop-holds : tie.Need-loop-holds Inv-loop μ-loop
 loop-holds c = (search needs, refl)
 
-mul-start : tie.Need-mul-start Inv-loop μ-loop
-mul-start c = search needs
+cast-at : tie.Need-cast-at Inv-loop μ-loop
+cast-at c = search needs
 
-add-end : tie.Need-add-end Inv-loop μ-loop
-add-end c = search needs
+mul-at : tie.Need-mul-at Inv-loop μ-loop
+mul-at c = search needs
 
-mul-situation-fits : tie.Need-mul-situation-fits Inv-loop μ-loop
-mul-situation-fits c = search needs
+mul-at-2 : tie.Need-mul-at-2 Inv-loop μ-loop
+mul-at-2 c = search needs
 
-sub-situation-fits : tie.Need-sub-situation-fits Inv-loop μ-loop
-sub-situation-fits c = search needs
+add-at : tie.Need-add-at Inv-loop μ-loop
+add-at c = search needs
 
-part-situation-fits-start : tie.Need-part-situation-fits-start Inv-loop μ-loop
-part-situation-fits-start c = search needs
+codes-at-requires : tie.Need-codes-at-requires Inv-loop μ-loop
+unfolding parameterBytes rows
+codes-at-requires c κs = omega arith
 
-part-situation-fits-end : tie.Need-part-situation-fits-end Inv-loop μ-loop
-part-situation-fits-end c = search needs
+slice-aggregate-situation-fits : tie.Need-slice-aggregate-situation-fits Inv-loop μ-loop
+slice-aggregate-situation-fits c = search needs
 
 situation-fits-requires : tie.Need-situation-fits-requires Inv-loop μ-loop
 situation-fits-requires c κs = search needs
 
 returns : tie.Need-returns Inv-loop μ-loop
+unfolding offsetOf findOf rows
 returns c =
     let l = c .before .before .before .before .before .loop in
-    let s = c .before .before .before .before .before .before .codes-of .result in
-    let m : codes ≡ l .k * codes + codes - l .k * codes = omega arith in
-    let unfit = ap (λ (j : ℕ). proper (take j (drop (l .k * codes) s))) m ∙ (sym (c .before .situation-fits .ensures) ∙ not-true _ (c .if1 .taken)) in
-    sym (ap (allProper situations) (sym (c .before .before .before .before .before .before .codes-of .ensures)) ∙ (l .inv .1 ∙ situation-unfit s (l .k) (omega arith) unfit))
+    let p = now (c .before .before .before .before .before .before .before .args .part) in
+    let unfit = situation-is p (offsetOf 947) (l .k) (omega arith) ∙ (ap proper (sym (c .before .before .before .codes-at .ensures)) ∙ (sym (c .before .situation-fits .ensures) ∙ not-true _ (c .if1 .taken))) in
+    sym (l .inv .1 ∙ situation-unfit (wordsAt buffer p (offsetOf 947)) (l .k) (omega arith) unfit)
 
 add-k : tie.Need-add-k Inv-loop μ-loop
 add-k c = search needs
@@ -58,19 +58,19 @@ loop-less : tie.Need-loop-less Inv-loop μ-loop
 loop-less c = search needs
 
 loop-again : tie.Need-loop-again Inv-loop μ-loop
+unfolding offsetOf findOf rows
 loop-again c =
     let l = c .before .before .before .before .before .loop in
-    let s = c .before .before .before .before .before .before .codes-of .result in
-    let m : codes ≡ l .k * codes + codes - l .k * codes = omega arith in
-    let fit = ap (λ (j : ℕ). proper (take j (drop (l .k * codes) s))) m ∙ (sym (c .before .situation-fits .ensures) ∙ not-false _ (c .if1 .left)) in
-    (omega arith, l .inv .1 ∙ situation-next s (l .k) (omega arith) fit)
+    let p = now (c .before .before .before .before .before .before .before .args .part) in
+    let fit = situation-is p (offsetOf 947) (l .k) (omega arith) ∙ (ap proper (sym (c .before .before .before .codes-at .ensures)) ∙ (sym (c .before .situation-fits .ensures) ∙ not-false _ (c .if1 .left))) in
+    (omega arith, l .inv .1 ∙ situation-next (wordsAt buffer p (offsetOf 947)) (l .k) (omega arith) fit)
 
 returns-2 : tie.Need-returns-2 Inv-loop μ-loop
 returns-2 c =
     let l = c .before .loop in
-    let s = c .before .before .codes-of .result in
+    let p = now (c .before .before .before .args .part) in
     let e : l .k ≡ situations = omega arith in
-    sym (ap (allProper situations) (sym (c .before .before .codes-of .ensures)) ∙ (l .inv .1 ∙ ap (from-situation s) e))
+    sym (l .inv .1 ∙ ap (from-situation (wordsAt buffer p (offsetOf 947))) e)
 
 pub situations-fit-spec : {M : Type 1} → statement M
 situations-fit-spec =
@@ -78,14 +78,13 @@ situations-fit-spec =
     (tie.spec
     Inv-loop
     μ-loop
-    codes-of-requires
     loop-holds
-    mul-start
-    add-end
-    mul-situation-fits
-    sub-situation-fits
-    part-situation-fits-start
-    part-situation-fits-end
+    cast-at
+    mul-at
+    mul-at-2
+    add-at
+    codes-at-requires
+    slice-aggregate-situation-fits
     situation-fits-requires
     returns
     add-k

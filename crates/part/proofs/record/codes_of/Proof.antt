@@ -13,7 +13,7 @@ use Rattle.part.proofs.record.codes_of.Statement.{statement}
 use Rattle.part.proofs.record.codes_of.Tie as tie
 
 abbrev Inv-loop : tie.InvT-loop
-Inv-loop part b₀ i₀ b i = (i ≤ buffer) × (b ≡ read-so-far part (offsetOf 947) i)
+Inv-loop part b₀ i₀ b i = (i ≤ buffer) × (b ≡ read-so-far buffer part (offsetOf 947) i)
 
 abbrev μ-loop : tie.MeasureT-loop
 μ-loop part b₀ i₀ b i = buffer - i
@@ -52,14 +52,14 @@ loop-again c =
     let l = c .before .before .loop in (
       search needs,
       ap (λ (x : List ℕ). set x (l .i) (c .word-at .result)) (l .inv .1)
-          ∙ words-next p (offsetOf 947) (l .i) (c .word-at .result) (omega arith) (c .word-at .ensures),
+          ∙ words-next buffer p (offsetOf 947) (l .i) (c .word-at .result) (omega arith) (c .word-at .ensures),
     )
 
 returns : tie.Need-returns Inv-loop μ-loop
 returns c =
     let p = now (c .before .before .before .args .part) in
     let e : c .before .loop .i ≡ buffer = omega arith in
-    c .before .loop .inv .1 ∙ ap (read-so-far p (offsetOf 947)) e ∙ words-all p (offsetOf 947)
+    c .before .loop .inv .1 ∙ words-all buffer p (offsetOf 947) (c .before .loop .i) e
 
 pub codes-of-spec : {M : Type 1} → statement M
 codes-of-spec =
