@@ -19,13 +19,14 @@ use Rattle.drive.specs.declared.states.State.{State}
 use Rattle.drive.specs.declared.states.State.the-variants.{S1, S2, S3, S4, S51, S52}
 use Rattle.drive.specs.declared.Drive.{Drive}
 use Rattle.drive.specs.declared.Input.{Input}
-use Rattle.drive.specs.Faults.{properFaults}
+use Rattle.drive.specs.Faults.{buffer, properFaults}
 use Rattle.drive.specs.Cycle.{cycleOf}
-use Rattle.drive.proofs.Laws.{keeps-proper}
-use Rattle.part.specs.Layout.{stateAt, lengthAt, partSize, waitingLength, responseBytes, withResponse}
+use Rattle.drive.proofs.Laws.{keeps-length, keeps-proper}
+use Rattle.part.specs.Layout.{stateAt, lengthAt, partSize, waitingLength, responseBytes, waiting, withResponse}
 use Rattle.part.specs.Record.{numberOf, putDrive, driveOf}
 use Rattle.part.specs.Fresh.{freshPart}
 use Rattle.part.specs.WellFormed.{isState, limitsFit, fixedFit, waitingFits, unusedFit, wellFormed}
+use Rattle.part.proofs.Words.{words-length}
 use Rattle.part.proofs.Rule.{form-of, form-is}
 pub use Rattle.part.proofs.Cycled.{InputFits, loaded-fits, cycled-fits}
 pub use Rattle.part.proofs.Stored.{Fits, ofRecord, drive-length, drive-response, drive-element, stored-is-loaded}
@@ -81,6 +82,14 @@ cycle-well-formed axis p i e g =
     drive-well-formed axis (cycleOf (driveOf p) i .drive) p e
     (keeps-proper (driveOf p) i (form-of axis p e .faults))
     (cycled-fits (driveOf p) i (loaded-fits p) g)
+
+-- and what waits
+pub cycle-keeps-waiting : (p : List ℕ) (i : Input) → waiting (putDrive (cycleOf (driveOf p) i .drive) p) ≡ waiting p
+unfolding driveOf
+cycle-keeps-waiting p i =
+    let d = cycleOf (driveOf p) i .drive in
+    let kept = drive-response d p (keeps-length (driveOf p) i (words-length buffer p (offsetOf 947))) in
+    rw (same-length p (putDrive d p) kept, same-bytes p (putDrive d p) kept)
 
 module _ (axis : ℕ) (p : List ℕ) (e : wellFormed axis p ≡ true) where
   holding : (bs : List ℕ) → length bs ≤ blockLimit → waitingFits axis (withResponse bs p) ≡ true → wellFormed axis (withResponse bs p) ≡ true

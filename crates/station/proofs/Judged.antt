@@ -47,7 +47,7 @@ tests b2 b3 b4 b5 b6 b7 b8 b9 n = cond b2 2 (cond b3 3 (cond b4 4 (cond b5 5 (co
 
 passed :
     (b2 b3 b4 b5 b6 b7 b8 b9 : Bool) (n : ℕ) → 0 ≡ early (tests b2 b3 b4 b5 b6 b7 b8 b9 n)
-    → (b2 ≡ false) × (b3 ≡ false) × (b4 ≡ false) × (tests b2 b3 b4 b5 b6 b7 b8 b9 n ≡ n)
+    → (b2 ≡ false) × (b3 ≡ false) × (b4 ≡ false) × (b8 ≡ false) × (tests b2 b3 b4 b5 b6 b7 b8 b9 n ≡ n)
 unfolding early
 passed true b3 b4 b5 b6 b7 b8 b9 n e = absurd (omega arith)
 passed false true b4 b5 b6 b7 b8 b9 n e = absurd (omega arith)
@@ -57,7 +57,7 @@ passed false false false false true b7 b8 b9 n e = absurd (omega arith)
 passed false false false false false true b8 b9 n e = absurd (omega arith)
 passed false false false false false false true b9 n e = absurd (omega arith)
 passed false false false false false false false true n e = absurd (omega arith)
-passed false false false false false false false false n e = (refl, refl, refl, refl)
+passed false false false false false false false false n e = (refl, refl, refl, refl, refl)
 
 neither : (a b : Bool) → a || b ≡ false → (a ≡ false) × (b ≡ false)
 neither true b e = absurd (true≢false e)
@@ -68,6 +68,8 @@ pub record Passed (k : ℕ) (f : List ℕ) (m : ℕ) (p : List ℕ) : Type 0 whe
   pub formed : wellFormed k p ≡ true
   pub room : 244 ≤ m
   pub head : 4 ≤ length f
+  pub function : isWrite f || isRead f ≡ true
+  pub turn : (isWrite f && not (eqb (waitingLength p) 0) || isRead f && eqb (waitingLength p) 0) ≡ false
   pub number : refusalOf k f m p ≡ blockNumber k f
 
 pub passes : (k : ℕ) (f : List ℕ) (m : ℕ) (p : List ℕ) → 0 ≡ early (refusalOf k f m p) → Passed k f m p
@@ -81,5 +83,7 @@ passes k f m p e =
       formed = not-false (wellFormed k p) (t .0);
       room = ltb-false m 244 (t .1);
       head = ltb-false (length f) 4 (neither (ltb (length f) 4) (not (isWrite f || isRead f)) (t .2) .0);
-      number = t .3;
+      function = not-false (isWrite f || isRead f) (neither (ltb (length f) 4) (not (isWrite f || isRead f)) (t .2) .1);
+      turn = t .3;
+      number = t .4;
     }

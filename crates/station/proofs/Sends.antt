@@ -1,8 +1,9 @@
 -- What waits after a block is worked is the response that the rules give, and what is sent is what waits.
-use mathlib.Core.Path.{_≡_, _∙_, ap}
-use mathlib.Core.Bool.{true}
+use mathlib.Core.Path.{_≡_, refl, sym, _∙_, ap}
+use mathlib.Core.Bool.{Bool, true, false, cond, not, _&&_, _||_, and-eq-true-iff}
 use mathlib.Core.List.{List, []}
 use Prim.Native.Nat.{ℕ, _≤_}
+use lib.Dec.{eqb, leb}
 use lib.ListN.{length}
 use borrow.Author.Tests.{eq-eqb}
 use Rattle.codes.specs.Code.{got, readable}
@@ -12,13 +13,21 @@ use Rattle.blocks.specs.Response.{response}
 use Rattle.blocks.proofs.Sound.{request-sound}
 use Rattle.blocks.proofs.Page.{request-valid}
 use Rattle.blocks.proofs.Demand.{responses}
-use Rattle.part.specs.Layout.{waiting, withResponse}
-use Rattle.part.proofs.Laws.{waiting-is-given}
+use Rattle.blocks.specs.Place.{headerOf}
+use Rattle.drive.specs.Cycle.{cycleOf}
+use Rattle.part.specs.Layout.{waitingLength, waiting, withResponse}
+use Rattle.part.specs.Record.{driveOf, putDrive}
+use Rattle.part.specs.WellFormed.{waitingFits}
+use Rattle.part.proofs.Rule.{form-of}
+use Rattle.part.proofs.Laws.{waiting-is-given, cycle-keeps-waiting}
 use Rattle.access.specs.Work.{worked, outcomeOf}
 use Rattle.access.proofs.Answers.{answer-readable}
 use Rattle.access.proofs.Keeps.{only-asked-changes}
-use Rattle.station.specs.Frame.{frameReply}
-use Rattle.station.specs.Laws.{WaitsAsRuled, SendsWaiting}
+use Rattle.station.specs.Frame.{isWrite, isRead, frameReply}
+use Rattle.station.specs.Cycle.{inputOf, cycleRefusal, cyclePart}
+use Rattle.station.specs.Inner.{early}
+use Rattle.station.specs.Laws.{WaitsAsRuled, CycleKeepsWaiting, SendsWaiting}
+use Rattle.station.proofs.Judged.{passes}
 
 -- a readable block of the axis itself is worked
 taken-part : (k : ℕ) (s p : List ℕ) (r : Request) → readable blockLimit request s ≡ true → request .read s ≡ got r [] → r .axis ≡ k → outcomeOf k s p .part ≡ withResponse (response .write (worked r p .response)) (worked r p .part)
@@ -34,6 +43,28 @@ waits-as-ruled k s p r h a e x =
     let is : waiting (outcomeOf k s p .part) ≡ bs = ap waiting (taken-part k s p r a e x) ∙ waiting-is-given bs (worked r p .part) (only-asked-changes r p fits .size ∙ h) short in
     (is, ap (readable blockLimit response) is ∙ good)
 
+pub cycle-keeps : CycleKeepsWaiting
+unfolding cyclePart
+cycle-keeps k i p = go (eqb (cycleRefusal k i p) 0)
+  where
+    go : (b : Bool) → waiting (cond b (putDrive (cycleOf (driveOf p) (inputOf i p) .drive) p) p) ≡ waiting p
+    go true = cycle-keeps-waiting p (inputOf i p)
+    go false = refl
+
+-- a read in its turn: something waits
+waits : (write reads none : Bool) → write ≡ false → write || reads ≡ true → (write && not none || reads && none) ≡ false → none ≡ false
+waits write reads none x r t = rw (x, rw x at r) at t
+
+-- of what waits in a well-formed part
+reads-back : (none short reads own : Bool) → none ≡ false → none || short && reads && own ≡ true → reads ≡ true
+reads-back none short reads own x w = and-eq-true-iff short reads .0 (and-eq-true-iff (short && reads) own .0 (rw x at w) .0) .1
+
 pub sends-waiting : SendsWaiting
-unfolding frameReply
-sends-waiting k f m p e x = rw (e, x)
+unfolding frameReply early waitingFits
+sends-waiting k f m p e x =
+    let c = passes k f (length m) p (sym (ap early e)) in
+    let some = waits (isWrite f) (isRead f) (eqb (waitingLength p) 0) x (c .function) (c .turn) in
+    (
+      rw (e, x) refl,
+      reads-back (eqb (waitingLength p) 0) (leb (waitingLength p) blockLimit) (readable blockLimit response (waiting p)) (eqb (headerOf (waiting p) .axis) k) some (form-of k p (c .formed) .waits),
+    )

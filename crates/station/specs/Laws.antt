@@ -18,7 +18,7 @@ use Rattle.part.specs.Fresh.{freshPart}
 use Rattle.part.specs.WellFormed.{wellFormed}
 use Rattle.station.specs.Parts.{farms, stationSize, partOf, freshStation}
 use Rattle.station.specs.Frame.{isWrite, blockOf, refusalOf, refusedReply, replyOf, frameReply}
-use Rattle.station.specs.Cycle.{Sent, refusedCycle}
+use Rattle.station.specs.Cycle.{Sent, refusedCycle, cyclePart}
 use Rattle.station.specs.Runs.{runAnswers, runEnd}
 use Rattle.station.specs.Isolation.{Isolated, answer, after, machine}
 use Rattle.station.specs.Calls.{Call, cycle, frame, Answer, toCycle, toFrame, owner, kinds}
@@ -114,8 +114,12 @@ WaitsAsRuled =
     (k : ℕ) (s p : List ℕ) (r : Request) → length p ≡ partSize → readable blockLimit request s ≡ true → request .read s ≡ got r [] → r .axis ≡ k
     → (waiting (outcomeOf k s p .part) ≡ response .write (worked r p .response)) × (readable blockLimit response (waiting (outcomeOf k s p .part)) ≡ true)
 
--- and what is sent is what waits
+-- a cycle leaves it waiting
+abbrev pub CycleKeepsWaiting : Type 0
+CycleKeepsWaiting = (k : ℕ) (i : Sent) (p : List ℕ) → waiting (cyclePart k i p) ≡ waiting p
+
+-- and what is sent is what waits, and is readable
 abbrev pub SendsWaiting : Type 0
 SendsWaiting =
     (k : ℕ) (f m p : List ℕ) → refusalOf k f (length m) p ≡ 0 → isWrite f ≡ false
-    → frameReply k f m p ≡ put m 0 (0x5E ∷ 0 ∷ 0x2F ∷ waitingLength p ∷ waiting p)
+    → (frameReply k f m p ≡ put m 0 (0x5E ∷ 0 ∷ 0x2F ∷ waitingLength p ∷ waiting p)) × (readable blockLimit response (waiting p) ≡ true)
