@@ -63,8 +63,7 @@ pub sends-waiting : SendsWaiting
 unfolding frameReply early waitingFits
 sends-waiting k f m p e x =
     let c = passes k f (length m) p (sym (ap early e)) in
-    let some = waits (isWrite f) (isRead f) (eqb (waitingLength p) 0) x (c .function) (c .turn) in
-    (
+    let some = waits (isWrite f) (isRead f) (eqb (waitingLength p) 0) x (c .function) (c .turn) in (
       rw (e, x) refl,
       reads-back (eqb (waitingLength p) 0) (leb (waitingLength p) blockLimit) (readable blockLimit response (waiting p)) (eqb (headerOf (waiting p) .axis) k) some (form-of k p (c .formed) .waits),
     )
