@@ -17,7 +17,8 @@ impl Started {
 
     fn command(&self, input: &str) -> io::Result<Command> {
         let mut command = Command::new(&self.0[0]);
-        command.args(&self.0[1..]).stdin(File::open(input)?);
+        let input = File::open(input).map_err(|error| Error::other(format!("{input}: {error}")))?;
+        command.args(&self.0[1..]).stdin(input);
         Ok(command)
     }
 
@@ -43,7 +44,7 @@ impl Started {
     pub fn time(&self, input: &str) -> io::Result<f64> {
         let mut command = self.command(input)?;
         let begin = Instant::now();
-        let status = command.stdout(Stdio::null()).status()?;
+        let status = command.stdout(Stdio::null()).status().map_err(|error| self.failed(error))?;
         let time = begin.elapsed().as_nanos() as f64;
         self.ended(status)?;
         Ok(time)
@@ -52,6 +53,7 @@ impl Started {
     /// The instructions that a counter reports at its end: the number after `Collected :`.
     pub fn count(&self, input: &str) -> io::Result<f64> {
         let output = self.command(input)?.output().map_err(|error| self.failed(error))?;
+        self.ended(output.status)?;
         let said = String::from_utf8_lossy(&output.stderr);
         let after = said.rsplit_once("Collected :").map(|(_, after)| after);
         let number = after.and_then(|after| after.split_whitespace().next()?.parse().ok());

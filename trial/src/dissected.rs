@@ -1,7 +1,7 @@
 //! What Wireshark reads in a capture, and what it should: fields in the order of the packet's bytes.
 
 use crate::layout::{Block, Values};
-use std::io::{BufRead, BufReader, Read};
+use std::io::{BufRead, BufReader};
 use std::net::Ipv4Addr;
 use std::path::Path;
 use std::process::{Command, Stdio};
@@ -139,7 +139,7 @@ pub fn read(capture: &Path) -> Result<Vec<Vec<Field>>, String> {
         .args(["-n", "-o", "ip.check_checksum:TRUE", "-o", "udp.check_checksum:TRUE", "-T", "pdml", "-r"])
         .arg(capture)
         .stdout(Stdio::piped())
-        .stderr(Stdio::piped())
+        .stderr(Stdio::inherit())
         .spawn()
         .map_err(|error| format!("tshark: {error}"))?;
     let mut packets: Vec<Vec<Field>> = Vec::new();
@@ -152,11 +152,9 @@ pub fn read(capture: &Path) -> Result<Vec<Vec<Field>>, String> {
             packet.push(field);
         }
     }
-    let mut said = String::new();
-    tshark.stderr.take().expect("piped").read_to_string(&mut said).map_err(|error| format!("tshark: {error}"))?;
     match tshark.wait() {
         Ok(status) if status.success() => Ok(packets),
-        ended => Err(format!("tshark: {ended:?}: {said}")),
+        ended => Err(format!("tshark: {ended:?}")),
     }
 }
 

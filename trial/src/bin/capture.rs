@@ -7,8 +7,11 @@
 #![forbid(unsafe_code)]
 #![deny(warnings)]
 
-use std::fs::File;
-use std::io::{self, BufReader, BufWriter, Read};
+use std::ffi::OsStr;
+use std::fs::{self, File};
+use std::io::{self, BufReader, BufWriter, Read, Write};
+use std::os::unix::fs::MetadataExt;
+use std::path::Path;
 use std::process::ExitCode;
 use trial::journal::{self, Next};
 use trial::packets::Capture;
@@ -23,13 +26,13 @@ struct Played {
 }
 
 fn main() -> ExitCode {
-    let arguments: Vec<String> = std::env::args().skip(1).collect();
+    let arguments: Vec<_> = std::env::args_os().skip(1).collect();
     let [journal, out] = arguments.as_slice() else {
         eprintln!("usage: capture JOURNAL OUT.pcap");
         return ExitCode::from(2);
     };
-    match run(journal, out) {
-        Ok(played) => finish(&played, journal, out),
+    match run(journal, out).and_then(|played| finish(&played, journal, out)) {
+        Ok(code) => code,
         Err(wrong) => {
             eprintln!("capture: {wrong}");
             ExitCode::from(2)
@@ -37,47 +40,70 @@ fn main() -> ExitCode {
     }
 }
 
-fn finish(played: &Played, journal: &str, out: &str) -> ExitCode {
+fn finish(played: &Played, journal: &OsStr, out: &OsStr) -> Result<ExitCode, String> {
     let Played { records, exchanges, refused, bad } = *played;
-    let cycles = records - exchanges;
-    println!("{out}: {} packets, {exchanges} exchanges ({refused} refused); {cycles} cycles left out", 2 * exchanges);
+    let (packets, cycles) = (2 * exchanges, records - exchanges);
+    let name = Path::new(out).display();
+    writeln!(
+        io::stdout(),
+        "{name}: {packets} packets, {exchanges} exchanges ({refused} refused); {cycles} cycles left out"
+    )
+    .map_err(|error| format!("standard output: {error}"))?;
     if !bad {
-        return ExitCode::SUCCESS;
+        return Ok(ExitCode::SUCCESS);
     }
+    let journal = Path::new(journal).display();
     eprintln!("capture: {journal}: record {} is bad; the capture has what came before it", records + 1);
-    ExitCode::FAILURE
+    Ok(ExitCode::FAILURE)
 }
 
 /// What went wrong with a file.
-fn wrong(name: &str) -> impl Fn(io::Error) -> String + '_ {
-    move |error| format!("{name}: {error}")
+fn wrong(name: &OsStr) -> impl Fn(io::Error) -> String + '_ {
+    move |error| format!("{}: {error}", Path::new(name).display())
 }
 
-fn run(journal: &str, out: &str) -> Result<Played, String> {
-    let input: Box<dyn Read> = match journal {
-        "-" => Box::new(io::stdin().lock()),
+/// Whether both names are of one file, which making the capture would empty.
+fn is_same(journal: &OsStr, out: &OsStr) -> bool {
+    let id = |name| fs::metadata(name).map(|file| (file.dev(), file.ino())).ok();
+    id(journal).is_some_and(|file| id(out) == Some(file))
+}
+
+fn run(journal: &OsStr, out: &OsStr) -> Result<Played, String> {
+    if is_same(journal, out) {
+        return Err(format!("{}: the capture would overwrite the journal", Path::new(out).display()));
+    }
+    let input: Box<dyn Read> = match journal.to_str() {
+        Some("-") => Box::new(io::stdin().lock()),
         _ => Box::new(File::open(journal).map_err(wrong(journal))?),
     };
-    let file = File::create(out).map_err(wrong(out))?;
     let mut input = BufReader::new(input);
+    // A journal that cannot be read leaves the other file as it was.
+    let first = journal::next(&mut input).map_err(wrong(journal))?;
+    let file = File::create(out).map_err(wrong(out))?;
     let mut capture = Capture::new(BufWriter::new(file)).map_err(wrong(out))?;
+    let played = play(first, &mut input, &mut capture, journal, out)?;
+    capture.finish().map_err(wrong(out)).map(|()| played)
+}
+
+fn play(
+    first: Next,
+    input: &mut impl Read,
+    capture: &mut Capture<impl Write>,
+    journal: &OsStr,
+    out: &OsStr,
+) -> Result<Played, String> {
     let mut station = journal::station();
     let mut played = Played::default();
-    loop {
-        match journal::next(&mut input).map_err(wrong(journal))? {
-            Next::Record(record) => {
-                played.records += 1;
-                if let Some(exchange) = journal::play(&mut station, record, played.records) {
-                    played.exchanges += 1;
-                    played.refused += u64::from(exchange.number != 0);
-                    capture.add(&exchange).map_err(wrong(out))?;
-                }
-            }
-            next => {
-                played.bad = matches!(next, Next::Bad);
-                break;
-            }
+    let mut next = first;
+    while let Next::Record(record) = next {
+        played.records += 1;
+        if let Some(exchange) = journal::play(&mut station, record, played.records) {
+            played.exchanges += 1;
+            played.refused += u64::from(exchange.number != 0);
+            capture.add(&exchange).map_err(wrong(out))?;
         }
+        next = journal::next(input).map_err(wrong(journal))?;
     }
-    capture.finish().map_err(wrong(out)).map(|()| played)
+    played.bad = matches!(next, Next::Bad);
+    Ok(played)
 }

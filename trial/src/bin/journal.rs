@@ -47,14 +47,14 @@ fn cycle(random: &mut Random, station: &mut Station, out: &mut impl Write) -> io
     Ok(())
 }
 
-/// A record of kind 2, where the frame has room in one.
+/// A record of kind 2, with a frame that has room in one.
 fn frame(random: &mut Random, station: &mut Station, out: &mut impl Write) -> io::Result<()> {
     let index = random.below(AXES);
     let farm = number(random, index);
     let waiting = station.axes[index].waiting.as_ref().map(|waiting| waiting.length);
-    let (_, frame) = blocks::frame(random, index as u8 + 1, waiting);
-    if frame.len() > FRAME_ROOM {
-        return Ok(());
+    let mut frame = blocks::frame(random, index as u8 + 1, waiting).1;
+    while frame.len() > FRAME_ROOM {
+        frame = blocks::frame(random, index as u8 + 1, waiting).1;
     }
     let mut body = [0; FRAME_ROOM];
     body[..frame.len()].copy_from_slice(&frame);

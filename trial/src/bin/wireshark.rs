@@ -50,6 +50,8 @@ const SEED: u64 = 11;
 const MADE_UP: usize = 1500;
 /// Differences that are printed.
 const PRINTED: usize = 20;
+/// A test of fewer request or response blocks than these says too little.
+const LEAST: usize = 1000;
 
 fn main() -> ExitCode {
     let arguments: Vec<String> = std::env::args().skip(1).collect();
@@ -361,6 +363,9 @@ impl Bench {
             "{} packets with {requests} request and {responses} response blocks: {fields} fields compared, {found} differences",
             compared.len(),
         );
+        if requests.min(responses) < LEAST {
+            return Err(format!("fewer than {LEAST} request or response blocks"));
+        }
         Ok(found == 0)
     }
 }
