@@ -95,13 +95,15 @@ fn least(a: usize, b: usize) -> usize
     if a < b { a } else { b }
 }
 
-// Writes the collected output; where that fails, says so on standard error.
-fn write_out(out: &[u8], used: usize)
+// Writes the collected output, and answers whether that was done; where not, says so on standard error.
+fn write_out(out: &[u8], used: usize) -> bool
     requires { ⌜ used ≤ length (now out) ⌝ }
 {
-    if !io::write_all(STDOUT_FILENO, &out[..used]) {
+    let done = io::write_all(STDOUT_FILENO, &out[..used]);
+    if !done {
         os::fail(b"standard output");
     }
+    done
 }
 
 fn write_rest(out: &[u8; OUT], used: usize)
@@ -110,16 +112,47 @@ fn write_rest(out: &[u8; OUT], used: usize)
     write_out(out, used);
 }
 
-// Writes the output where it has no room for a line of n bytes, and answers how much of it is still used.
-fn make_room(out: &[u8], used: usize, n: usize) -> usize
+// Where the next line goes, and whether what stood there before could be written.
+struct Room {
+    at: usize,
+    good: bool,
+}
+
+// Writes the output where it has no room for a line of n bytes.
+fn make_room(out: &[u8], used: usize, n: usize) -> Room
     requires { ⌜ (used ≤ length (now out)) × (n ≤ length (now out)) ⌝ }
-    ensures { λ r. ⌜ r + n ≤ length (now (out .entry)) ⌝ }
+    ensures { λ r. ⌜ r .at + n ≤ length (now (out .entry)) ⌝ }
 {
     if n <= out.len() - used {
-        return used;
+        return Room {
+            at: used,
+            good: true,
+        };
     }
-    write_out(out, used);
-    0
+    let good = write_out(out, used);
+    Room { at: 0, good }
+}
+
+fn both(a: bool, b: bool) -> bool {
+    if a { b } else { false }
+}
+
+// Plays a record, or what is left in place of one.
+fn play_record(station: &mut [u8], record: &[u8], out: &mut [u8; OUT], used: usize) -> Played
+    requires { ⌜ used ≤ 16384 ⌝ }
+    ensures { λ r. ⌜ r .used ≤ 16384 ⌝ }
+{
+    let mut line = [0u8; journal::LINE];
+    let p = journal::play(station, record, &mut line);
+    let length = p.length;
+    let room = make_room(out, used, length);
+    let at = room.at;
+    codes::put_bytes(out, at, &line[..length]);
+    let good = both(p.good, room.good);
+    Played {
+        used: at + length,
+        good,
+    }
 }
 
 // Plays one record, if there is one.
@@ -148,19 +181,15 @@ fn play_next(
         };
     }
     let next = start + least(journal::record_length(input[start]), end - start);
-    let mut line = [0u8; journal::LINE];
-    let p = journal::play(station, &input[start..next], &mut line);
-    let length = p.length;
-    let at = make_room(out, used, length);
-    codes::put_bytes(out, at, &line[..length]);
-    let left = Window {
+    let p = play_record(station, &input[start..next], out, used);
+    let window = Window {
         start: next,
         end,
         open,
     };
     Step {
-        used: at + length,
-        window: left,
+        used: p.used,
+        window,
         more: p.good,
         good: p.good,
     }
