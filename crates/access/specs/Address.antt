@@ -1,4 +1,5 @@
--- Document 01, "Each address is worked in order, the first error counts": the rule for one address, in its order.
+-- Document 01, "Each address is worked in order, the first error counts": the rule for one address. Each test names the one after it,
+-- so the order of 01 is read from the last definition up.
 use mathlib.Core.Bool.{cond, not, _||_}
 use mathlib.Core.List.{[], _∷_}
 use Prim.Native.Nat.{ℕ, _+_}

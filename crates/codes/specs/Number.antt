@@ -1,4 +1,4 @@
--- Numbers at a place of a list of bytes, high byte first, signed ones included: one treatment for every width.
+-- Document 01, "numbers high byte first": numbers at a place of a list of bytes, signed ones included, one treatment for every width.
 use mathlib.Core.List.{List, _++_}
 use mathlib.Core.Bool.{cond}
 use Prim.Native.Nat.{ℕ, suc, _+_, _-_, _/_, _^_}

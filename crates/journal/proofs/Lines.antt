@@ -13,7 +13,7 @@ use Rattle.station.specs.declared.Cycled.{Cycled}
 use Rattle.station.specs.declared.Framed.{Framed}
 use Rattle.station.specs.Calls.{cycle, frame, Answer, toCycle, toFrame, kinds}
 use Rattle.station.specs.Isolation.{answer, answerBy}
-use Rattle.part.specs.Layout.{waitingLength, responseAt, responseBytes, waiting}
+use Rattle.part.specs.Layout.{waitingLength, responseAt, responseRoom, waiting}
 use Rattle.station.specs.Parts.{refusal, partOf}
 use Rattle.station.specs.Frame.{isWrite, refusalOf, refusedReply, workedReply, replyOf, frameAnswer}
 use Rattle.journal.specs.Text.{decimal, signed, hexWord, hexBytes}
@@ -59,7 +59,7 @@ either false xs ys h k = k
 short : (f p : List ℕ) (n : ℕ) → length (replyOf f p n) ≤ 244
 short f p n =
     either (eqb n 0) (workedReply f p) (refusedReply f n)
-    (either (isWrite f) _ (0x5E ∷ 0 ∷ 0x2F ∷ waitingLength p ∷ waiting p) (omega arith) (omega (arith, length-take (waitingLength p) (responseBytes p), length-take 240 (drop responseAt p))))
+    (either (isWrite f) _ (0x5E ∷ 0 ∷ 0x2F ∷ waitingLength p ∷ waiting p) (omega arith) (omega (arith, length-take (waitingLength p) (responseRoom p), length-take 240 (drop responseAt p))))
     (either (ltb n 5) [] _ (omega arith) (omega arith))
 
 abbrev lengthOf : Answer → ℕ

@@ -1,4 +1,4 @@
--- Numbers as a journal's line writes them: ASCII, decimal with a sign, and hex in capitals.
+-- Document 01, "Journal program": numbers as a journal's line writes them: ASCII, decimal with a sign, and hex in capitals.
 use mathlib.Core.Bool.{cond}
 use mathlib.Core.List.{List, [], _∷_, _++_}
 use Prim.Native.Nat.{ℕ, zero, suc, _+_, _/_, _%_}

@@ -20,7 +20,7 @@ use Rattle.catalogue.specs.declared.Row.{Row}
 use Rattle.catalogue.specs.declared.Found.the-variants.{At}
 use Rattle.catalogue.specs.Table.{rows, findOf, offsetOf, parameterBytes}
 use Rattle.catalogue.specs.Element.{elementOf}
-use Rattle.part.specs.Layout.{stateAt, effectiveAt, lengthAt, responseAt, partSize, waitingLength, responseBytes, waiting, withResponse}
+use Rattle.part.specs.Layout.{stateAt, effectiveAt, lengthAt, responseAt, partSize, waitingLength, responseRoom, waiting, withResponse}
 use Rattle.part.specs.Record.{stateOf, faultsOf, driveOf}
 use Rattle.part.specs.WellFormed.{everyRow, limitsFit, fixedFit, waitingFits, unusedFit}
 use Rattle.part.proofs.Waiting.{byte-written, filled-length}
@@ -98,7 +98,7 @@ module _ (bs p : List ℕ) where
         ∙ (ap (λ (l : List ℕ). numberAt 1 (put p lengthAt l) lengthAt) (sym (byte-written (length bs) (omega arith)))
         ∙ number-put 1 p lengthAt (length bs) (lit≤ tt) (omega arith) (omega arith))
 
-    bytes-are : responseBytes (withResponse bs p) ≡ filled
+    bytes-are : responseRoom (withResponse bs p) ≡ filled
     unfolding withResponse
     bytes-are =
         let l = put p lengthAt (length bs ∷ []) in
@@ -114,7 +114,7 @@ module _ (bs p : List ℕ) where
     -- the response waits as it was given
     pub waiting-is-given : waiting (withResponse bs p) ≡ bs
     waiting-is-given =
-        ap (λ (n : ℕ). take n (responseBytes (withResponse bs p))) waiting-length-is
+        ap (λ (n : ℕ). take n (responseRoom (withResponse bs p))) waiting-length-is
         ∙ (ap (take (length bs)) bytes-are ∙ take-append-seam bs (replicate (blockLimit - length bs) 0))
 
     all-zeros : (n : ℕ) → zeros (replicate n 0) ≡ true
@@ -124,7 +124,7 @@ module _ (bs p : List ℕ) where
     pub unused-zero : unusedFit (withResponse bs p) ≡ true
     unfolding unusedFit
     unused-zero =
-        ap (λ (n : ℕ). zeros (drop n (responseBytes (withResponse bs p)))) waiting-length-is
+        ap (λ (n : ℕ). zeros (drop n (responseRoom (withResponse bs p)))) waiting-length-is
         ∙ (ap (λ (l : List ℕ). zeros (drop (length bs) l)) bytes-are
         ∙ (ap zeros (drop-append-seam bs (replicate (blockLimit - length bs) 0)) ∙ all-zeros (blockLimit - length bs)))
 

@@ -22,7 +22,7 @@ use Rattle.drive.specs.declared.Input.{Input}
 use Rattle.drive.specs.Faults.{buffer, properFaults}
 use Rattle.drive.specs.Cycle.{cycleOf}
 use Rattle.drive.proofs.Laws.{keeps-length, keeps-proper}
-use Rattle.part.specs.Layout.{stateAt, lengthAt, partSize, waitingLength, responseBytes, waiting, withResponse}
+use Rattle.part.specs.Layout.{stateAt, lengthAt, partSize, waitingLength, responseRoom, waiting, withResponse}
 use Rattle.part.specs.Record.{numberOf, putDrive, driveOf}
 use Rattle.part.specs.Fresh.{freshPart}
 use Rattle.part.specs.WellFormed.{isState, limitsFit, fixedFit, waitingFits, unusedFit, wellFormed}
@@ -49,7 +49,7 @@ module _ (p q : List ℕ) (same : drop lengthAt q ≡ drop lengthAt p) where
   unfolding numberAt
   same-length = rw same
 
-  same-bytes : responseBytes q ≡ responseBytes p
+  same-bytes : responseRoom q ≡ responseRoom p
   same-bytes = ap (take blockLimit) (sym (drop-drop 1 lengthAt q) ∙ (ap (drop 1) same ∙ drop-drop 1 lengthAt p))
 
   same-waits : (axis : ℕ) → waitingFits axis q ≡ waitingFits axis p

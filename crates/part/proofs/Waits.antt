@@ -13,7 +13,7 @@ use Rattle.blocks.specs.Block.{blockLimit}
 use Rattle.blocks.specs.Response.{response}
 use Rattle.blocks.specs.Place.{headerOf}
 use Rattle.drive.specs.Faults.{zeros}
-use Rattle.part.specs.Layout.{responseAt, partSize, waitingLength, responseBytes, waiting}
+use Rattle.part.specs.Layout.{responseAt, partSize, waitingLength, responseRoom, waiting}
 use Rattle.part.specs.WellFormed.{waitingFits, unusedFit}
 
 -- the four tests of a waiting response
@@ -32,7 +32,7 @@ module _ (p : List ℕ) (axis n : ℕ) (e : n ≡ waitingLength p) where
 
     module _ (h : n ≤ blockLimit) where
       pub waiting-is : waiting p ≡ take n (drop responseAt p)
-      waiting-is = ap (λ (k : ℕ). take k (responseBytes p)) (sym e) ∙ take-take n blockLimit (drop responseAt p) h
+      waiting-is = ap (λ (k : ℕ). take k (responseRoom p)) (sym e) ∙ take-take n blockLimit (drop responseAt p) h
 
       all : (reads : Bool) → readable blockLimit response (take n (drop responseAt p)) ≡ reads
           → (reads && eqb (headerOf (take n (drop responseAt p)) .axis) axis) ≡ waitingFits axis p
@@ -54,7 +54,7 @@ module _ (p : List ℕ) (axis n : ℕ) (e : n ≡ waitingLength p) where
 module _ (p : List ℕ) (n : ℕ) (e : n ≡ waitingLength p) where
   pub unused-none : blockLimit < n → true ≡ unusedFit p
   unfolding unusedFit
-  unused-none h = rw (← e) (sym (ap zeros (drop-of-length-le (responseBytes p) {i = n} (omega (arith, length-take blockLimit (drop responseAt p))))))
+  unused-none h = rw (← e) (sym (ap zeros (drop-of-length-le (responseRoom p) {i = n} (omega (arith, length-take blockLimit (drop responseAt p))))))
 
   pub unused-is : length p ≡ partSize → zeros (drop (responseAt + n) p) ≡ unusedFit p
   unfolding unusedFit

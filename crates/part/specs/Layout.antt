@@ -28,11 +28,11 @@ abbrev pub waitingLength : List ℕ → ℕ
 waitingLength p = numberAt 1 p lengthAt
 
 -- the bytes kept for a response, and those of them that wait
-abbrev pub responseBytes : List ℕ → List ℕ
-responseBytes p = take blockLimit (drop responseAt p)
+abbrev pub responseRoom : List ℕ → List ℕ
+responseRoom p = take blockLimit (drop responseAt p)
 
 abbrev pub waiting : List ℕ → List ℕ
-waiting p = take (waitingLength p) (responseBytes p)
+waiting p = take (waitingLength p) (responseRoom p)
 
 -- the part with the response bs waiting: unused response bytes are 0
 unfoldable pub withResponse : List ℕ → List ℕ → List ℕ

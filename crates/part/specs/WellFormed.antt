@@ -1,4 +1,6 @@
--- Document 01, "A part is well-formed exactly when ..": one definition for each part of the rule, in its order.
+-- Document 01, "A part is well-formed exactly when ..": one definition for each part of the rule, in its order. The part on fault
+-- situations, "no code stands after a 0 or twice", is `properFaults` in drive's `Faults`. "Its other fields may hold anything of their
+-- type": nothing else is asked.
 use mathlib.Core.Bool.{Bool, true, cond, _&&_, _||_}
 use mathlib.Core.List.{List, [], _∷_}
 use Prim.Native.Nat.{ℕ, zero, suc}
@@ -13,7 +15,7 @@ use Rattle.drive.specs.Faults.{zeros, properFaults}
 use Rattle.catalogue.specs.declared.Row.{Row}
 use Rattle.catalogue.specs.Table.{rows}
 use Rattle.catalogue.specs.Element.{inside, elementOf, freshOf}
-use Rattle.part.specs.Layout.{stateAt, partSize, waitingLength, responseBytes, waiting}
+use Rattle.part.specs.Layout.{stateAt, partSize, waitingLength, responseRoom, waiting}
 use Rattle.part.specs.Record.{faultsOf}
 
 -- "its state is one of the six"
@@ -46,7 +48,7 @@ waitingFits axis p =
 
 -- "and unused response bytes are 0"
 unfoldable pub unusedFit : List ℕ → Bool
-unusedFit p = zeros (drop (waitingLength p) (responseBytes p))
+unusedFit p = zeros (drop (waitingLength p) (responseRoom p))
 
 unfoldable pub wellFormed : ℕ → List ℕ → Bool
 wellFormed axis p =

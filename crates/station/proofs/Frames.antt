@@ -17,7 +17,7 @@ use Rattle.blocks.specs.Place.{headerOf}
 use Rattle.blocks.specs.Response.{response}
 use Rattle.drive.specs.Faults.{properFaults}
 use Rattle.catalogue.specs.Table.{rows}
-use Rattle.part.specs.Layout.{stateAt, responseAt, responseBytes, partSize, waitingLength, waiting, withResponse}
+use Rattle.part.specs.Layout.{stateAt, responseAt, responseRoom, partSize, waitingLength, waiting, withResponse}
 use Rattle.part.specs.Record.{faultsOf}
 use Rattle.part.specs.WellFormed.{wellFormed, isState, everyRow, limitsFit, fixedFit, waitingFits, unusedFit}
 use Rattle.station.specs.Inner.{outcome, fetched, framed}
@@ -56,7 +56,7 @@ pub handed :
 handed w m p e h i j =
     let n : responseAt + w - responseAt ≡ w = omega arith in
     let l : length (take w (drop responseAt p)) ≡ w = length-take-le w (drop responseAt p) (rw length-drop (omega arith)) in
-    let t : take w (responseBytes p) ≡ take w (drop responseAt p) = take-take w blockLimit (drop responseAt p) h in
+    let t : take w (responseRoom p) ≡ take w (drop responseAt p) = take-take w blockLimit (drop responseAt p) h in
     rw (← e, n, t) (
       omega arith,
       put-append m 0 (0x5E ∷ 0 ∷ 0x2F ∷ w ∷ []) (take w (drop responseAt p)) (omega arith),

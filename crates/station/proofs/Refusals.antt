@@ -14,7 +14,7 @@ use Rattle.codes.proofs.Put.{put-fits, put-none}
 use Rattle.blocks.specs.Block.{blockLimit}
 use Rattle.blocks.specs.Request.{request}
 use Rattle.blocks.specs.Place.{headerOf}
-use Rattle.part.specs.Layout.{partSize, responseAt, waitingLength, responseBytes, waiting}
+use Rattle.part.specs.Layout.{partSize, responseAt, waitingLength, responseRoom, waiting}
 use Rattle.part.specs.WellFormed.{wellFormed}
 use Rattle.station.specs.Parts.{farms, stationSize, partOf, withPart, refusal}
 use Rattle.station.specs.Frame.{isWrite, isRead, slot, index, lengthByte, lengthFits, blockOf, refusalOf, codeOf, refusedReply, replyOf, frameAnswer, frameReply, framePart}
@@ -165,7 +165,7 @@ unreadable-block k f m s is unread = not-mine k f m s is (λ y. true≢false (sy
 
 -- a reply never fills more than 244 bytes
 waiting-bound : (p : List ℕ) → length (waiting p) ≤ blockLimit
-waiting-bound p = omega (arith, length-take (waitingLength p) (responseBytes p), length-take blockLimit (drop responseAt p))
+waiting-bound p = omega (arith, length-take (waitingLength p) (responseRoom p), length-take blockLimit (drop responseAt p))
 
 reply-bound : (f p : List ℕ) (n : ℕ) → length (replyOf f p n) ≤ 244
 reply-bound f p n =

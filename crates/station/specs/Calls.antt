@@ -1,4 +1,4 @@
--- The kinds of call that a station has: whose each is, and what it answers and leaves on its owner's part.
+-- Document 01, "The box and its edges": the kinds of call that a station has: whose each is, and what it answers and leaves on its owner's part.
 use mathlib.Core.List.{List}
 use Prim.Native.Nat.{ℕ}
 use Rattle.station.specs.declared.Cycled.{Cycled}

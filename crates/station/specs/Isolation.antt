@@ -1,4 +1,4 @@
--- Calls on a station, whatever their kinds are: each works on its owner's part, and farm and size are judged before any part.
+-- Demand 2, the two-run rule: calls on a station, whatever their kinds are: each works on its owner's part, and farm and size are judged before any part.
 use mathlib.Core.Path.{_≡_}
 use mathlib.Core.List.{List}
 use Prim.Native.Nat.{ℕ, zero, suc, _≤_}

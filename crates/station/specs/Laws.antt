@@ -85,7 +85,8 @@ pub record WellFormedStation (s : List ℕ) : Type 0 where
   pub size : length s ≡ stationSize
   pub parts : (k : ℕ) → 1 ≤ k → k ≤ farms → wellFormed k (partOf k s) ≡ true
 
--- the words of a cycle are numbers of 16 bits, as the call has them
+-- The words of a cycle are numbers of 16 bits, as the call has them; `mag` of a negative number is one less than its size, so that
+-- -32768 is among them.
 pub record SentFits (i : Sent) : Type 0 where
   pub stw1 : i .stw1 < 2 ^ 16
   pub nsoll : mag (i .nsoll) < 2 ^ 15

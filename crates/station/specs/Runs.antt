@@ -1,4 +1,4 @@
--- Runs of calls on a state, and what one party sees of them.
+-- Demand 2, the two-run rule: runs of calls on a state, and what one party sees of them.
 use mathlib.Core.Path.{_≡_}
 use mathlib.Core.Bool.{Bool, cond}
 use mathlib.Core.List.{List, [], _∷_}

@@ -54,6 +54,7 @@ abbrev pub fourth : List ℕ
 fourth =
     0x5E ∷ 0x00 ∷ 0x2F ∷ 206 ∷ 0x08 ∷ 0x81 ∷ 0x01 ∷ 0x04 ∷ empty947 ++ empty947 ++ empty947 ++ (0x44 ∷ 0x01 ∷ 0x00 ∷ 0x15 ∷ [])
 
+-- the four cycles (P1 to P4), the two frames of farm 1 (P5, P6), the denied frame (P7), and the four reads with their fetch (P8)
 abbrev pub worked : List Worked
 worked =
     cycleLine 0x047E 0 2 0x0331 0
