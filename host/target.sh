@@ -1,5 +1,5 @@
-# Sourced: how programs for the library's processor are built and started here. Sets `cc` and, where this machine is another,
-# `emulated`, the words that start a program. Installs what is missing by the name of its Debian package.
+# Sourced: how programs for the library's processor are built and started here. Sets `cc`, which `need_cc` installs, and, where this
+# machine is another, `emulated`, the words that start a program. Installs what is missing by the name of its Debian package.
 
 stop() {
     echo "$0: $*" >&2
@@ -14,14 +14,19 @@ need() {
         stop "could not install the package $2"
 }
 
+# Whoever only starts programs needs no compiler.
+need_cc() {
+    need "$cc" "$cc_package"
+}
+
 if [ "$(uname -m)" = x86_64 ]; then
-    need gcc gcc
     cc=gcc
+    cc_package=gcc
     emulated=()
 else
-    need x86_64-linux-gnu-gcc gcc-x86-64-linux-gnu
     need qemu-x86_64 qemu-user
     cc=x86_64-linux-gnu-gcc
+    cc_package=gcc-x86-64-linux-gnu
     emulated=(qemu-x86_64 -L /usr/x86_64-linux-gnu)
 fi
 strict=(-std=c11 -Wall -Wextra -Wpedantic -Werror)

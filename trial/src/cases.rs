@@ -177,17 +177,7 @@ fn read_step(key: &str, rest: &str) -> Result<Step, String> {
         return Err("\"->\" is missing or out of place".to_string());
     }
     match (key, asked) {
-        ("cycle", [axis, flags, stw1, nsoll, nist, fault]) => Ok(Step::Cycle {
-            input: Cycle {
-                axis: read_number(axis)?,
-                flags: read_number(flags)?,
-                stw1: read_word(stw1)?,
-                nsoll: read_number(nsoll)?,
-                nist: read_number(nist)?,
-                fault: read_word(fault)?,
-            },
-            wanted: read_cycle_answer(wanted)?,
-        }),
+        ("cycle", asked) => Ok(Step::Cycle { input: read_cycle(asked)?, wanted: read_cycle_answer(wanted)? }),
         ("frame", [farm, frame @ ..]) => {
             Ok(Step::Frame { farm: read_number(farm)?, frame: read_bytes(frame)?, wanted: read_frame_answer(wanted)? })
         }
@@ -206,6 +196,20 @@ fn read_step(key: &str, rest: &str) -> Result<Step, String> {
         },
         _ => Err("unknown key or wrong number of fields".to_string()),
     }
+}
+
+fn read_cycle(words: &[&str]) -> Result<Cycle, String> {
+    let [axis, flags, stw1, nsoll, nist, fault] = words else {
+        return Err("expected axis, flags, STW1, NSOLL_A, NIST_A and fault".to_string());
+    };
+    Ok(Cycle {
+        axis: read_number(axis)?,
+        flags: read_number(flags)?,
+        stw1: read_word(stw1)?,
+        nsoll: read_number(nsoll)?,
+        nist: read_number(nist)?,
+        fault: read_word(fault)?,
+    })
 }
 
 fn read_cycle_answer(words: &[&str]) -> Result<CycleAnswer, String> {

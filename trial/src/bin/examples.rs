@@ -70,18 +70,7 @@ impl Bench {
                 self.untouched(&before, number, axis)
             }
             Step::Frame { farm, frame, wanted } => {
-                let mut reply = vec![REPLY_BYTE; self.reply_size];
-                let Framed { length, stored, number } =
-                    face::frame(&mut self.memory[..self.lent], *farm, frame, &mut reply);
-                let length = usize::from(length);
-                if length > reply.len() {
-                    return Err((wanted.to_string(), format!("{number} {stored} and a length of {length}")));
-                }
-                let past = reply.split_off(length);
-                compare(wanted, &FrameAnswer { number, stored, reply })?;
-                if past.iter().any(|byte| *byte != REPLY_BYTE) {
-                    return Err(("the reply memory past the reply untouched".to_string(), hex(&past)));
-                }
+                let number = self.frame(*farm, frame, wanted)?;
                 self.untouched(&before, number, *farm)
             }
             Step::Fresh { number } => {
@@ -109,6 +98,22 @@ impl Bench {
             }
             Step::Loop { .. } => Ok(()),
         }
+    }
+
+    /// A frame, and what is wrong with its answer or its reply; else its number.
+    fn frame(&mut self, farm: u32, frame: &[u8], wanted: &FrameAnswer) -> Result<u8, (String, String)> {
+        let mut reply = vec![REPLY_BYTE; self.reply_size];
+        let Framed { length, stored, number } = face::frame(&mut self.memory[..self.lent], farm, frame, &mut reply);
+        let length = usize::from(length);
+        if length > reply.len() {
+            return Err((wanted.to_string(), format!("{number} {stored} and a length of {length}")));
+        }
+        let past = reply.split_off(length);
+        compare(wanted, &FrameAnswer { number, stored, reply })?;
+        if past.iter().any(|byte| *byte != REPLY_BYTE) {
+            return Err(("the reply memory past the reply untouched".to_string(), hex(&past)));
+        }
+        Ok(number)
     }
 
     /// A refusal changes nothing; an answered call changes the caller's part alone.
