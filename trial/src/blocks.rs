@@ -60,11 +60,12 @@ fn write(random: &mut Random, axis: u8) -> (Kind, Vec<u8>) {
 
 /// A request or a change of this axis, mostly readable.
 pub fn block(random: &mut Random, axis: u8) -> (Kind, Block) {
-    if random.one_in(2) {
-        (Kind::Request, request(random, axis))
-    } else {
-        (Kind::Change, change(random, axis))
+    let (kind, mut block) =
+        if random.one_in(2) { (Kind::Request, request(random, axis)) } else { (Kind::Change, change(random, axis)) };
+    if random.one_in(200) {
+        block.identifier = random.byte();
     }
+    (kind, block)
 }
 
 /// The write frame of a block, with its true length as far as a byte holds it.
@@ -81,13 +82,13 @@ fn reference(random: &mut Random) -> u8 {
     1 + random.below(255) as u8
 }
 
-/// How many parameters: often one, now and then as many as there may be, or one more.
+/// How many parameters: often one, now and then as many as there may be, one more, or none.
 fn parameters(random: &mut Random) -> usize {
     match random.below(10) {
         0..=3 => 1,
         4..=6 => 2 + random.below(5),
         7 | 8 => 7 + random.below(31),
-        _ => random.pick(&[37, 38, 39, 39, 40]),
+        _ => random.pick(&[0, 37, 38, 39, 39, 40]),
     }
 }
 
@@ -205,9 +206,10 @@ fn elements_of(random: &mut Random, length: usize, right: bool) -> (u8, u16) {
 fn value_block(random: &mut Random, pnu: u16, elements: u8, right: bool) -> Values {
     let parameter = Parameter::find(pnu);
     let kind = parameter.map_or(Type::U16, Parameter::kind);
+    let any = random.byte();
     let format = match random.below(60) {
         _ if right => random.pick(&[kind.size_code(), kind.type_code()]),
-        0 => random.pick(&[0, 1, 8, 0x40, 0x44, 0xFF]),
+        0 => random.pick(&[0, 1, 8, 9, 0x40, 0x44, 0x45, 0xFF, any]),
         1..=6 => random.pick(&FORMATS),
         _ => random.pick(&[kind.size_code(), kind.type_code()]),
     };
@@ -216,7 +218,7 @@ fn value_block(random: &mut Random, pnu: u16, elements: u8, right: bool) -> Valu
         0 if !right => random.pick(&[0, 1, 2, wanted + 1, wanted - 1, wanted + 3]),
         _ => wanted,
     };
-    let size = twin::block::format_size(format).unwrap_or(1);
+    let size = twin::block::format_size(format).unwrap_or_else(|| random.pick(&[1, 2, 4]));
     let limits = parameter.and_then(Parameter::limits).unwrap_or((0, 65535));
     Values { format, size, values: (0..count).map(|_| value(random, limits, right) as u32).collect() }
 }

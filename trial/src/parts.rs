@@ -74,10 +74,25 @@ fn element(random: &mut Random, low: i32, high: i32) -> i32 {
     }
 }
 
+/// A response whose blocks fit, and one of them, or their kind, is none that a response has.
+fn odd(random: &mut Random, axis: u8) -> Block {
+    let mut block = response(random, axis);
+    let any = random.byte();
+    let format = random.pick(&[2, 3, 4, 5, 6, 7, 0x40, 0x41, 0x44, 0x44, 0x45, any]);
+    let (size, count) = (random.pick(&[0, 1, 2, 2, 4]), random.below(4));
+    match random.below(3) {
+        0 => block.values.iter_mut().for_each(|values| *values = Values::zero()),
+        _ => block.values = vec![any_values(random, format, size, count)],
+    }
+    block.identifier = random.pick(&[block.identifier, 0x01, 0x81, 0x82, any]);
+    Block { count: block.values.len() as u8, ..block }
+}
+
 /// A response that waits: readable and of this axis but for now and then.
 fn waiting(random: &mut Random, axis: u8) -> Waiting {
-    let mut block = response(random, axis).bytes();
-    if random.one_in(4) {
+    let odd_one = random.one_in(8);
+    let mut block = if odd_one { odd(random, axis).bytes() } else { response(random, axis).bytes() };
+    if random.one_in(if odd_one { 50 } else { 4 }) {
         damage(random, &mut block);
     }
     if random.one_in(10) {

@@ -135,13 +135,13 @@ impl Trial {
         Ok(())
     }
 
-    /// Each byte of a part in turn holds something else for one call, and is then put back.
+    /// Each byte of a part in turn holds something else for one call, and is then put back: every other value in some 92,000 turns.
     fn altered(&mut self, index: usize) -> Result<(), String> {
         let kept = *self.pair.part(index);
         let mut part = kept;
-        let place = self.altered % PART;
+        let (place, more) = (self.altered % PART, self.altered / PART % 255);
         self.altered += 1;
-        part[place] = self.other_byte(kept[place]);
+        part[place] = kept[place].wrapping_add(1 + more as u8);
         self.pair.put(index, &part);
         let (call, kind) = self.make_call(index);
         let done = self.call(call, STATION, Setting::Altered, kind);
