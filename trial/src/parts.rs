@@ -74,23 +74,49 @@ fn element(random: &mut Random, low: i32, high: i32) -> i32 {
     }
 }
 
-/// A response whose blocks fit, and one of them, or their kind, is none that a response has.
+/// Blocks that no response has: format, bytes of a value, values.
+const ODD: [(u8, usize, usize); 16] = [
+    (0x40, 0, 1),
+    (0x40, 1, 1),
+    (0x41, 1, 0),
+    (0x42, 2, 0),
+    (0x43, 4, 0),
+    (0x44, 2, 0),
+    (0x44, 2, 2),
+    (0x44, 1, 1),
+    (0x45, 0, 1),
+    (0x45, 2, 1),
+    (2, 1, 1),
+    (5, 1, 1),
+    (3, 2, 1),
+    (6, 2, 1),
+    (4, 4, 1),
+    (7, 4, 1),
+];
+
+/// A response whose blocks fit: one of them is none that a response has, or none is an error where one must be.
 fn odd(random: &mut Random, axis: u8) -> Block {
     let mut block = response(random, axis);
-    let any = random.byte();
-    let format = random.pick(&[2, 3, 4, 5, 6, 7, 0x40, 0x41, 0x44, 0x44, 0x45, any]);
-    let (size, count) = (random.pick(&[0, 1, 2, 2, 4]), random.below(4));
-    match random.below(3) {
+    let any = (random.byte(), random.pick(&[0, 1, 2, 4]), random.below(4));
+    let (format, size, count) = if random.one_in(4) { any } else { random.pick(&ODD) };
+    let item = any_values(random, format, size, count);
+    match random.below(4) {
         0 => block.values.iter_mut().for_each(|values| *values = Values::zero()),
-        _ => block.values = vec![any_values(random, format, size, count)],
+        1 => block.values = vec![item],
+        _ => {
+            block.values.truncate(block.values.len().max(2) - 1);
+            block.values.push(item);
+        }
     }
-    block.identifier = random.pick(&[block.identifier, 0x01, 0x81, 0x82, any]);
+    if random.one_in(8) {
+        block.identifier = random.pick(&[0x01, 0x81, 0x82, any.0]);
+    }
     Block { count: block.values.len() as u8, ..block }
 }
 
 /// A response that waits: readable and of this axis but for now and then.
 fn waiting(random: &mut Random, axis: u8) -> Waiting {
-    let odd_one = random.one_in(8);
+    let odd_one = random.one_in(4);
     let mut block = if odd_one { odd(random, axis).bytes() } else { response(random, axis).bytes() };
     if random.one_in(if odd_one { 50 } else { 4 }) {
         damage(random, &mut block);

@@ -119,11 +119,11 @@ impl Trial {
     fn step(&mut self) -> Result<(), String> {
         let index = self.random.below(AXES);
         match self.random.below(1000) {
-            0..=99 => self.altered(index)?,
-            100..=119 => self.altered_elsewhere(index)?,
-            120..=149 => self.planted(index)?,
-            150..=159 => self.resized(index)?,
-            160 if self.random.one_in(50) => self.call(Call::Fresh, STATION, Setting::Left, Kind::Free)?,
+            0..=149 => self.altered(index)?,
+            150..=169 => self.altered_elsewhere(index)?,
+            170..=219 => self.planted(index)?,
+            220..=229 => self.resized(index)?,
+            230 if self.random.one_in(50) => self.call(Call::Fresh, STATION, Setting::Left, Kind::Free)?,
             _ => {
                 let (call, kind) = self.make_call(index);
                 self.call(call, STATION, Setting::Left, kind)?;
@@ -135,13 +135,21 @@ impl Trial {
         Ok(())
     }
 
-    /// Each byte of a part in turn holds something else for one call, and is then put back: every other value in some 92,000 turns.
+    /// A byte of a part holds something else for one call, and is then put back: each in turn, until every one has held every
+    /// other value, and between times any one something near.
     fn altered(&mut self, index: usize) -> Result<(), String> {
         let kept = *self.pair.part(index);
         let mut part = kept;
-        let (place, more) = (self.altered % PART, self.altered / PART % 255);
-        self.altered += 1;
-        part[place] = kept[place].wrapping_add(1 + more as u8);
+        let place = if self.random.one_in(3) {
+            let place = self.random.below(PART);
+            part[place] = self.other_byte(kept[place]);
+            place
+        } else {
+            let (place, more) = (self.altered % PART, self.altered / PART % 255);
+            self.altered += 1;
+            part[place] = kept[place].wrapping_add(1 + more as u8);
+            place
+        };
         self.pair.put(index, &part);
         let (call, kind) = self.make_call(index);
         let done = self.call(call, STATION, Setting::Altered, kind);
