@@ -1,15 +1,13 @@
 // Whether a part is well-formed: each part of the rule is looked at once, in its order.
 ghost use mathlib.Core.Path.{_≡_};
-ghost use mathlib.Core.Bool.{true, _&&_};
-ghost use Prim.Native.Nat.{ℕ, _+_, _*_, _≤_};
+ghost use mathlib.Core.Bool.{_&&_};
+ghost use Prim.Native.Nat.{_+_, _*_, _≤_};
 ghost use lib.ListN.{length, drop};
 ghost use Rattle.drive.specs.Faults.{codes, isIn, zeros, proper, properFaults};
 ghost use Rattle.catalogue.specs.Table.{rows};
-ghost use Rattle.catalogue.specs.Element.{inside};
 ghost use Rattle.part.specs.Layout.{partSize};
 ghost use Rattle.part.specs.Record.{wordsAt, faultsOf};
 ghost use Rattle.part.specs.WellFormed.{isState, everyRow, limitsFit, fixedFit, waitingFits, unusedFit, wellFormed};
-use catalogue::Kind;
 use catalogue::Row;
 
 fn is_state(n: u8) -> bool
@@ -33,25 +31,11 @@ fn is_state(n: u8) -> bool
     n == 52
 }
 
-// The limits of a row cover its whole type, so that no value lies outside them.
-fn is_free(r: Row) -> bool
-    ensures { λ q. ⌜ (q ≡ true → (x : ℕ) → inside r x ≡ true) ⌝ }
-{
-    let k = r.kind;
-    let Kind::U16 = k else {
-        return false;
-    };
-    if r.low <= 0 { 65535 <= r.high } else { false }
-}
-
 // The elements of a writable row are inside its limits.
 fn limits_fit(part: &[u8], r: Row) -> bool
     ensures { λ q. ⌜ q ≡ limitsFit (now (part .entry)) r ⌝ }
 {
     if !r.writable {
-        return true;
-    }
-    if is_free(r) {
         return true;
     }
     let mut i: u16 = 0;

@@ -1,5 +1,5 @@
--- Every value fits, or the first i elements are inside.
-use Rattle.part.proofs.Every.{every-next, unasked, asked-all, asked-unfit, asked-fit}
+-- The first i elements are inside.
+use Rattle.part.proofs.Every.{every-next, unasked, asked-unfit, asked-fit}
 use Rattle.part.specs.WellFormed.{everyElement, limitsFit}
 use Rattle.catalogue.specs.Element.{inside, elementOf}
 use borrow.Author.Tests.{not-true, not-false}
@@ -24,15 +24,6 @@ returns c =
     let a = c .before .before .before .args in
     unasked (a .r .writable) (λ (k : ℕ). inside (a .r) (elementOf (a .r) k (now (a .part)))) (a .r .count) 0 (not-true _ (c .if1 .taken))
 
-is-free-requires : tie.Need-is-free-requires Inv-loop μ-loop
-is-free-requires c κs = search needs
-
-returns-2 : tie.Need-returns-2 Inv-loop μ-loop
-unfolding limitsFit
-returns-2 c =
-    let a = c .before .before .before .before .before .args in
-    asked-all (a .r .writable) (λ (k : ℕ). inside (a .r) (elementOf (a .r) k (now (a .part)))) (a .r .count) 0 (λ k. c .before .is-free .ensures (c .if2 .taken) (elementOf (a .r) k (now (a .part))))
-
 loop-holds : tie.Need-loop-holds Inv-loop μ-loop
 loop-holds c = (search needs, refl)
 
@@ -42,14 +33,14 @@ element-requires c κs = search needs
 is-inside-requires : tie.Need-is-inside-requires Inv-loop μ-loop
 is-inside-requires c κs = search needs
 
-returns-3 : tie.Need-returns-3 Inv-loop μ-loop
+returns-2 : tie.Need-returns-2 Inv-loop μ-loop
 unfolding limitsFit
-returns-3 c =
-    let a = c .before .before .before .before .before .before .before .before .before .before .before .args in
+returns-2 c =
+    let a = c .before .before .before .before .before .before .before .before .before .args in
     let i = c .before .before .before .before .before .loop .i in
     let out : inside (a .r) (elementOf (a .r) i (now (a .part))) ≡ false =
-    ap (inside (a .r)) (sym (c .before .before .element .ensures)) ∙ (sym (c .before .is-inside .ensures) ∙ not-true _ (c .if4 .taken)) in
-    asked-unfit (a .r .writable) (λ (k : ℕ). inside (a .r) (elementOf (a .r) k (now (a .part)))) (a .r .count) i (not-false _ (c .before .before .before .before .before .before .before .before .if1 .left)) (omega arith) out
+    ap (inside (a .r)) (sym (c .before .before .element .ensures)) ∙ (sym (c .before .is-inside .ensures) ∙ not-true _ (c .if3 .taken)) in
+    asked-unfit (a .r .writable) (λ (k : ℕ). inside (a .r) (elementOf (a .r) k (now (a .part)))) (a .r .count) i (not-false _ (c .before .before .before .before .before .before .if1 .left)) (omega arith) out
 
 add-i : tie.Need-add-i Inv-loop μ-loop
 add-i c = search needs
@@ -59,18 +50,18 @@ loop-less c = search needs
 
 loop-again : tie.Need-loop-again Inv-loop μ-loop
 loop-again c =
-    let a = c .before .before .before .before .before .before .before .before .before .before .before .args in
+    let a = c .before .before .before .before .before .before .before .before .before .args in
     let l = c .before .before .before .before .before .loop in
     let fits : inside (a .r) (elementOf (a .r) (l .i) (now (a .part))) ≡ true =
-    ap (inside (a .r)) (sym (c .before .before .element .ensures)) ∙ (sym (c .before .is-inside .ensures) ∙ not-false _ (c .if4 .left)) in
+    ap (inside (a .r)) (sym (c .before .before .element .ensures)) ∙ (sym (c .before .is-inside .ensures) ∙ not-false _ (c .if3 .left)) in
     (omega arith, every-next _ (l .i) (l .inv .1) fits)
 
-returns-4 : tie.Need-returns-4 Inv-loop μ-loop
+returns-3 : tie.Need-returns-3 Inv-loop μ-loop
 unfolding limitsFit
-returns-4 c =
-    let a = c .before .before .before .before .before .before .before .before .args in
+returns-3 c =
+    let a = c .before .before .before .before .before .before .args in
     let l = c .before .before .loop in
-    asked-fit (a .r .writable) (λ (k : ℕ). inside (a .r) (elementOf (a .r) k (now (a .part)))) (a .r .count) (l .i) (not-false _ (c .before .before .before .before .before .if1 .left)) (omega arith) (l .inv .1)
+    asked-fit (a .r .writable) (λ (k : ℕ). inside (a .r) (elementOf (a .r) k (now (a .part)))) (a .r .count) (l .i) (not-false _ (c .before .before .before .if1 .left)) (omega arith) (l .inv .1)
 
 pub limits-fit-spec : {M : Type 1} → statement M
 limits-fit-spec =
@@ -79,13 +70,11 @@ limits-fit-spec =
     Inv-loop
     μ-loop
     returns
-    is-free-requires
-    returns-2
     loop-holds
     element-requires
     is-inside-requires
-    returns-3
+    returns-2
     add-i
     loop-less
     loop-again
-    returns-4)
+    returns-3)
