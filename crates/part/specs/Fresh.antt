@@ -5,10 +5,12 @@ use Prim.Native.Nat.{ℕ, zero, suc}
 use lib.Dec.{eqb}
 use lib.ListN.{length, replicate}
 use Rattle.codes.specs.Number.{put}
+use Rattle.drive.specs.declared.states.State.the-variants.{S1}
 use Rattle.catalogue.specs.declared.Row.{Row}
 use Rattle.catalogue.specs.Table.{rows}
 use Rattle.catalogue.specs.Element.{putElement, freshOf}
 use Rattle.part.specs.Layout.{stateAt, partSize}
+use Rattle.part.specs.Record.{numberOf}
 
 -- the first n elements of a row at their fresh values
 abbrev pub freshElements : Row → ℕ → List ℕ → List ℕ
@@ -21,7 +23,7 @@ freshRows (r ∷ rs) p = freshRows rs (freshElements r (r .count) p)
 
 -- every byte 0 but for the table's fresh values and the state
 unfoldable pub freshPart : List ℕ
-freshPart = freshRows rows (put (replicate partSize 0) stateAt (1 ∷ []))
+freshPart = freshRows rows (put (replicate partSize 0) stateAt (numberOf S1 ∷ []))
 
 -- memory of another size is left as it is
 unfoldable pub freshOver : List ℕ → List ℕ

@@ -10,11 +10,14 @@ use Rattle.drive.specs.declared.states.State.the-variants.{S1, S2, S3, S4, S51,
 use Rattle.drive.specs.declared.Drive.{Drive}
 use Rattle.drive.specs.declared.faults.Faults.{Faults}
 use Rattle.drive.specs.declared.speed.N2.{N2}
-use Rattle.drive.specs.Faults.{buffer}
+use Rattle.drive.specs.Faults.{bufferCodes}
 use Rattle.catalogue.specs.Table.{offsetOf}
 use Rattle.part.specs.Layout.{stateAt, effectiveAt}
 
--- the number of a state, as a cycle answers it
+-- the six states, and the number of each, as a cycle answers it and as it stands in a part
+abbrev pub states : List State
+states = S1 ∷ S2 ∷ S3 ∷ S4 ∷ S51 ∷ S52 ∷ []
+
 abbrev pub numberOf : State → ℕ
 numberOf S1 = 1
 numberOf S2 = 2
@@ -23,15 +26,13 @@ numberOf S4 = 4
 numberOf S51 = 51
 numberOf S52 = 52
 
--- the state of a number; S1 where it is none
+-- the state that has a number; S1 where none has
+abbrev pub stateIn : List State → ℕ → State
+stateIn [] n = S1
+stateIn (s ∷ ss) n = cond (eqb n (numberOf s)) s (stateIn ss n)
+
 unfoldable pub stateOf : ℕ → State
-stateOf n =
-    cond (eqb n 2) S2
-    (cond (eqb n 3) S3
-    (cond (eqb n 4) S4
-    (cond (eqb n 51) S51
-    (cond (eqb n 52) S52
-    S1))))
+stateOf n = stateIn states n
 
 -- n words from a place on
 abbrev pub wordsAt : ℕ → List ℕ → ℕ → List ℕ
@@ -42,7 +43,7 @@ abbrev pub speedAt : List ℕ → ℕ → N2
 speedAt p at = record { 0 = signedOf 2 (numberAt 2 p at) }
 
 abbrev pub faultsOf : List ℕ → Faults
-faultsOf p = record { counter = numberAt 2 p (offsetOf 944); buffer = wordsAt buffer p (offsetOf 947) }
+faultsOf p = record { counter = numberAt 2 p (offsetOf 944); buffer = wordsAt bufferCodes p (offsetOf 947) }
 
 unfoldable pub driveOf : List ℕ → Drive
 driveOf p =

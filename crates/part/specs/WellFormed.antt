@@ -2,7 +2,7 @@
 -- situations, "no code stands after a 0 or twice", is `properFaults` in drive's `Faults`. "Its other fields may hold anything of their
 -- type": nothing else is asked.
 use mathlib.Core.Bool.{Bool, true, cond, _&&_, _||_}
-use mathlib.Core.List.{List, [], _∷_}
+use mathlib.Core.List.{List, [], _∷_, map}
 use Prim.Native.Nat.{ℕ, zero, suc}
 use lib.Dec.{eqb, leb}
 use lib.ListN.{length, drop}
@@ -11,16 +11,16 @@ use Rattle.codes.specs.Number.{numberAt}
 use Rattle.blocks.specs.Block.{blockLimit}
 use Rattle.blocks.specs.Response.{response}
 use Rattle.blocks.specs.Place.{headerOf}
-use Rattle.drive.specs.Faults.{zeros, properFaults}
+use Rattle.drive.specs.Faults.{isIn, zeros, properFaults}
 use Rattle.catalogue.specs.declared.Row.{Row}
 use Rattle.catalogue.specs.Table.{rows}
 use Rattle.catalogue.specs.Element.{inside, elementOf, freshOf}
 use Rattle.part.specs.Layout.{stateAt, partSize, waitingLength, responseRoom, waiting}
-use Rattle.part.specs.Record.{faultsOf}
+use Rattle.part.specs.Record.{states, numberOf, faultsOf}
 
 -- "its state is one of the six"
 abbrev pub isState : ℕ → Bool
-isState n = eqb n 1 || eqb n 2 || eqb n 3 || eqb n 4 || eqb n 51 || eqb n 52
+isState n = isIn n (map numberOf states)
 
 -- a test of the first n elements of a row
 abbrev pub everyElement : (ℕ → Bool) → ℕ → Bool
