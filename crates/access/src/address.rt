@@ -1,13 +1,17 @@
 // What an address names: the elements of a parameter, or its error.
 ghost use mathlib.Core.Path.{_≡_};
-ghost use Rattle.access.specs.Address.{ofSimple, ofArray, ofRow, checked};
+ghost use mathlib.Core.Bool.{true, false};
+ghost use Rattle.catalogue.specs.declared.Found.the-variants.{At};
+ghost use Rattle.access.specs.Address.{checkedIn, checked};
 use super::Checked;
 use blocks::reader::Address;
 use catalogue::Found;
 use catalogue::Row;
 
+// A simple parameter, where its values are asked for.
 fn of_simple(a: Address, r: Row) -> Checked
-    ensures { λ q. ⌜ q ≡ ofSimple a r ⌝ }
+    requires { ⌜ (a .attribute ≡ 0x10) × (r .simple ≡ true) ⌝ }
+    ensures { λ q. ⌜ q ≡ checkedIn a (At r) ⌝ }
 {
     if a.subindex == 0 {
         if a.elements <= 1 {
@@ -17,8 +21,10 @@ fn of_simple(a: Address, r: Row) -> Checked
     Checked::Error(0x04)
 }
 
+// An array, where its values are asked for.
 fn of_array(a: Address, r: Row) -> Checked
-    ensures { λ q. ⌜ q ≡ ofArray a r ⌝ }
+    requires { ⌜ (a .attribute ≡ 0x10) × (r .simple ≡ false) ⌝ }
+    ensures { λ q. ⌜ q ≡ checkedIn a (At r) ⌝ }
 {
     if a.elements == 0 {
         return Checked::Error(0x16);
@@ -30,7 +36,7 @@ fn of_array(a: Address, r: Row) -> Checked
 }
 
 fn of_row(a: Address, r: Row) -> Checked
-    ensures { λ q. ⌜ q ≡ ofRow a r ⌝ }
+    ensures { λ q. ⌜ q ≡ checkedIn a (At r) ⌝ }
 {
     if a.attribute == 0x20 {
         return Checked::Error(0x09);

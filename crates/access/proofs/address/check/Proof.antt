@@ -1,6 +1,6 @@
 -- What the catalogue finds decides.
 use mathlib.Core.Path.{sym, _∙_, ap}
-use Rattle.access.specs.Address.{ofFound, checked}
+use Rattle.access.specs.Address.{checkedIn, checked}
 use borrow.Author.Needs.{needs}
 use Rattle.access.proofs.address.check.Statement.{statement}
 use Rattle.access.proofs.address.check.Tie as tie
@@ -18,7 +18,7 @@ returns : tie.Need-returns
 unfolding checked
 returns c =
     let a = c .before .before .before .args .a in
-    ap (ofFound a) (sym (sym (c .before .before .find .ensures) ∙ c .enum-told .given .1))
+    ap (checkedIn a) (sym (sym (c .before .before .find .ensures) ∙ c .enum-told .given .1))
 
 of-row-requires : tie.Need-of-row-requires
 of-row-requires c κs = search needs
@@ -27,7 +27,7 @@ returns-2 : tie.Need-returns-2
 unfolding checked
 returns-2 c =
     let a = c .before .before .before .before .before .args .a in
-    c .of-row .ensures ∙ ap (ofFound a) (sym (c .before .before .f .given .1) ∙ c .before .before .before .before .find .ensures)
+    c .of-row .ensures ∙ ap (checkedIn a) (sym (c .before .before .f .given .1) ∙ c .before .before .before .before .find .ensures)
 
 pub check-spec : {M : Type 1} → statement M
 check-spec =

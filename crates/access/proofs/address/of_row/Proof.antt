@@ -1,7 +1,5 @@
 -- The attribute, then the rule of a simple parameter or of an array.
-use mathlib.Core.Path.{_∙_}
 use borrow.Author.Tests.{eq-eqb, ne-eqb}
-use Rattle.access.proofs.Checks.{row-simple, row-array}
 use borrow.Author.Needs.{needs}
 use Rattle.access.proofs.address.of_row.Statement.{statement}
 use Rattle.access.proofs.address.of_row.Tie as tie
@@ -16,20 +14,16 @@ returns-3 : tie.Need-returns-3
 returns-3 c = rw (ne-eqb _ _ (c .before .before .before .before .if1 .left), ne-eqb _ _ (c .before .before .if2 .left), ne-eqb _ _ (c .if3 .taken))
 
 of-simple-requires : tie.Need-of-simple-requires
-of-simple-requires c κs = search needs
+of-simple-requires c κs = (c .before .if3 .left, c .if4 .taken)
 
 of-array-requires : tie.Need-of-array-requires
-of-array-requires c κs = search needs
+of-array-requires c κs = (c .before .if3 .left, c .if4 .left)
 
 returns-4 : tie.Need-returns-4
-returns-4 c =
-    let a = c .before .before .before .before .before .before .before .before .args in
-    c .of-simple .ensures ∙ row-simple (a .a) (a .r) (c .before .before .if3 .left) (c .before .if4 .taken)
+returns-4 c = c .of-simple .ensures
 
 returns-5 : tie.Need-returns-5
-returns-5 c =
-    let a = c .before .before .before .before .before .before .before .before .args in
-    c .of-array .ensures ∙ row-array (a .a) (a .r) (c .before .before .if3 .left) (c .before .if4 .left)
+returns-5 c = c .of-array .ensures
 
 pub of-row-spec : {M : Type 1} → statement M
 of-row-spec =
