@@ -17,7 +17,7 @@ use Rattle.access.specs.declared.Checked.{Checked}
 use Rattle.access.specs.declared.Checked.the-variants.{Elements, Error}
 use Rattle.access.specs.declared.change.Done.{Done}
 use Rattle.access.specs.Address.{checked, errorBlock, emptyBlock}
-use Rattle.access.specs.Change.{Changed, refused, oneMore, storeFrom, ofElements, ofChecked, changeOne, changeAll}
+use Rattle.access.specs.Change.{Changed, failure, oneMore, storeFrom, ofElements, ofChecked, changeOne, changeAll}
 use Rattle.access.specs.Walk.{answerIn, Wrote}
 use Rattle.access.proofs.Room.{error-size}
 
@@ -44,25 +44,25 @@ answer-short d = go (d .failed)
     go false = empty-short
 
 record Brief (c : Changed) : Type 0 where
-  pub short : length (blockBytes (c .answer)) ≤ 4
+  pub short : length (blockBytes (c .block)) ≤ 4
 
-refused-brief : (t : Bool) (e : ℕ) (p : List ℕ) (c : Changed) → Brief c → Brief (cond t (refused e p) c)
-refused-brief true e p c k = record { short = error-short e }
-refused-brief false e p c k = k
+failure-brief : (t : Bool) (e : ℕ) (p : List ℕ) (c : Changed) → Brief c → Brief (cond t (failure e p) c)
+failure-brief true e p c k = record { short = error-short e }
+failure-brief false e p c k = k
 
 store-brief : (r : Row) (i : ℕ) (xs p : List ℕ) → Brief (storeFrom r i xs p)
 store-brief r i [] p = record { short = empty-short }
 store-brief r i (x ∷ xs) p = go (inside r x) (store-brief r (i + 1) xs (putElement r i x p))
   where
-    go : (t : Bool) → Brief (storeFrom r (i + 1) xs (putElement r i x p)) → Brief (cond t (oneMore (storeFrom r (i + 1) xs (putElement r i x p))) (refused 0x02 p))
+    go : (t : Bool) → Brief (storeFrom r (i + 1) xs (putElement r i x p)) → Brief (cond t (oneMore (storeFrom r (i + 1) xs (putElement r i x p))) (failure 0x02 p))
     go true k = record { short = k .short }
     go false k = record { short = error-short 0x02 }
 
 elements-brief : (a : Address) (b : Block) (p : List ℕ) (r : Row) (n : ℕ) → Brief (ofElements a b p r n)
 elements-brief a b p r n =
-    refused-brief (not (r .writable)) 0x01 p _
-    (refused-brief (not (eqb (b .format) (sizeCode (r .kind)) || eqb (b .format) (typeCode (r .kind)))) 0x05 p _
-    (refused-brief (not (eqb (length (b .values)) n)) 0x18 p _ (store-brief r (a .subindex) (b .values) p)))
+    failure-brief (not (r .writable)) 0x01 p _
+    (failure-brief (not (eqb (b .format) (sizeCode (r .kind)) || eqb (b .format) (typeCode (r .kind)))) 0x05 p _
+    (failure-brief (not (eqb (length (b .values)) n)) 0x18 p _ (store-brief r (a .subindex) (b .values) p)))
 
 change-brief : (a : Address) (b : Block) (p : List ℕ) → Brief (changeOne a b p)
 unfolding changeOne
@@ -72,11 +72,11 @@ change-brief a b p = go (checked a)
     go (Error e) = record { short = error-short e }
     go (Elements r n) = elements-brief a b p r n
 
-pub answers-short : (them : List Address) (bs : List Block) (p : List ℕ) → length (writeAll blockBytes (changeAll them bs p .answers)) ≤ 4 * length them
+pub answers-short : (them : List Address) (bs : List Block) (p : List ℕ) → length (writeAll blockBytes (changeAll them bs p .blocks)) ≤ 4 * length them
 answers-short [] bs p = omega arith
 answers-short (a ∷ more) [] p = omega arith
 answers-short (a ∷ more) (b ∷ bs) p =
     let c = changeOne a b p in
     let one = change-brief a b p .short in
     let rest = answers-short more bs (c .part) in
-    omega (arith, length-append (blockBytes (c .answer)) (writeAll blockBytes (changeAll more bs (c .part) .answers)))
+    omega (arith, length-append (blockBytes (c .block)) (writeAll blockBytes (changeAll more bs (c .part) .blocks)))

@@ -1,15 +1,15 @@
 -- Every answer to a request is a response of document 01, with the request's header, and takes at most 240 bytes.
 use mathlib.Core.Path.{_≡_, refl, sym, ap, _∙_}
 use mathlib.Core.Bool.{Bool, true, false, cond, not, _||_, or-false}
-use mathlib.Core.List.{List, [], _∷_, List·Memᴰ}
+use mathlib.Core.List.{List, [], _∷_}
 use mathlib.Core.Logic.{_⊎_, inl, inr}
 use mathlib.Mathlib.Data.Bool.Basic.{or-eq-false-eq-eq-false-and-eq-false as or-eq-false-iff}
 use Prim.Native.Nat.{ℕ, zero, suc, _+_, _*_, _^_, _≤_, _<_}
 use native.Mathlib.Nat.{zero-add}
 use native.Mathlib.Omega.{arith}
-use lib.Dec.{eqb, leb, ltb, lit≤, lit<}
+use lib.Dec.{eqb, leb, lit≤, lit<}
 use lib.ListN.{length, length-append}
-use borrow.Author.Tests.{leb-true, le-leb, lt-ltb, ltb-false, eqb-true, eqb-false, not-false}
+use borrow.Author.Tests.{leb-true, le-leb, lt-ltb, eqb-true, eqb-false, not-false}
 use borrow.Table.Steps.{cases}
 use Rattle.codes.specs.Code.{AllOf, writeAll}
 use Rattle.codes.specs.Number.{numberAt}
@@ -24,71 +24,17 @@ use Rattle.blocks.proofs.Demand.{responses}
 use Rattle.catalogue.specs.declared.Kind.{Kind}
 use Rattle.catalogue.specs.declared.Kind.the-variants.{U8, U16, I16, I32}
 use Rattle.catalogue.specs.declared.Row.{Row}
-use Rattle.catalogue.specs.declared.Found.{Found}
-use Rattle.catalogue.specs.declared.Found.the-variants.{At, Nothing}
-use Rattle.catalogue.specs.Table.{rows, findOf, sizeOf as elementSize}
+use Rattle.catalogue.specs.Table.{elementSize}
 use Rattle.catalogue.specs.Element.{sizeCode, typeCode, inside, putElement}
 use Rattle.catalogue.proofs.Elements.{element-small}
-use Rattle.catalogue.proofs.Rows.{found-row, row-some}
 use Rattle.access.specs.declared.Checked.{Checked}
 use Rattle.access.specs.declared.Checked.the-variants.{Elements, Error}
-use Rattle.access.specs.Address.{ofSimple, ofArray, ofRow, ofFound, checked, errorBlock, emptyBlock}
-use Rattle.access.specs.Read.{elementsFrom, sizeOfBlock, answerTo, readBlock, readBlocks}
-use Rattle.access.specs.Change.{Changed, refused, storeFrom, ofElements, ofChecked, changeOne, changeAll}
+use Rattle.access.specs.Address.{checked, errorBlock, emptyBlock}
+use Rattle.access.specs.Read.{elementsFrom, blockSize, answerTo, readBlock, readBlocks}
+use Rattle.access.specs.Change.{Changed, failure, storeFrom, ofElements, ofChecked, changeOne, changeAll}
 use Rattle.access.specs.Work.{Worked, answerOf, worked}
+use Rattle.access.proofs.Checks.{pick, Named, CheckedFits, checked-fits}
 use Rattle.access.specs.Laws.{SameHeader, AnswersHeader, AnswerFits, AnswerShort, AnswerReadable, AnswerAxis, blocksOf, OneEach, AnswersBlocks, AnswersIdentifier, FailureAnswered}
-
--- what holds of both sides of a test
-pub pick : {A : Type 0} (P : A → Type 0) (b : Bool) {x y : A} → (b ≡ true → P x) → (b ≡ false → P y) → P (cond b x y)
-pick P true f g = f refl
-pick P false f g = g refl
-
--- What the checks of an address leave: elements of a row of the table, or an error word.
-pub record Named (a : Address) (r : Row) (n : ℕ) : Type 0 where
-  pub found : findOf (a .pnu) ≡ At r
-  pub row : List·Memᴰ r rows
-  pub some : 1 ≤ n
-  pub few : n ≤ 255
-  pub room : a .subindex + n ≤ r .count
-
-abbrev CheckedFits : Address → Checked → Type 0
-CheckedFits a (Elements r n) = Named a r n
-CheckedFits a (Error e) = e < 65536
-
-module _ (a : Address) (f : AddressFits a) where
-  module _ (r : Row) (e : findOf (a .pnu) ≡ At r) where
-    named : (n : ℕ) → 1 ≤ n → n ≤ 255 → a .subindex + n ≤ r .count → CheckedFits a (Elements r n)
-    named n some few room = record { found = e; row = found-row (a .pnu) r e; some = some; few = few; room = room }
-
-    simple-fits : CheckedFits a (ofSimple a r)
-    simple-fits =
-        pick (CheckedFits a) (not (eqb (a .subindex) 0) || ltb 1 (a .elements)) (λ t. lit< tt)
-        (λ t.
-        let first = not-false (eqb (a .subindex) 0) (or-eq-false-iff (not (eqb (a .subindex) 0)) (ltb 1 (a .elements)) .0 t .0) in
-        named 1 (lit≤ tt) (lit≤ tt) (omega (arith, eqb-true (a .subindex) 0 first, row-some r (found-row (a .pnu) r e))))
-
-    array-fits : CheckedFits a (ofArray a r)
-    array-fits =
-        pick (CheckedFits a) (eqb (a .elements) 0) (λ t. lit< tt)
-        (λ t. pick (CheckedFits a) (ltb (r .count) (a .subindex + a .elements)) (λ u. lit< tt)
-        (λ u.
-        let nonzero = eqb-false (a .elements) 0 t in
-        named (a .elements) (omega arith) (omega (arith, f .elements)) (ltb-false (r .count) (a .subindex + a .elements) u)))
-
-    row-fits : CheckedFits a (ofRow a r)
-    row-fits =
-        pick (CheckedFits a) (eqb (a .attribute) 0x20) (λ t. lit< tt)
-        (λ t. pick (CheckedFits a) (eqb (a .attribute) 0x30) (λ u. lit< tt)
-        (λ u. pick (CheckedFits a) (not (eqb (a .attribute) 0x10)) (λ v. lit< tt)
-        (λ v. pick (CheckedFits a) (r .simple) (λ w. simple-fits) (λ w. array-fits))))
-
-  checked-fits : CheckedFits a (checked a)
-  unfolding checked
-  checked-fits = go (findOf (a .pnu)) refl
-    where
-      go : (found : Found) → findOf (a .pnu) ≡ found → CheckedFits a (ofFound a found)
-      go Nothing e = lit< tt
-      go (At r) e = row-fits r e
 
 -- a format that a parameter's values may have is as wide as its elements
 size-same : (k : Kind) → sizeOf (sizeCode k) ≡ elementSize k
@@ -111,7 +57,7 @@ format-same k f e =
     (λ t. ap sizeOf (eqb-true f (sizeCode k) t) ∙ size-same k)
     (λ t. ap sizeOf (eqb-true f (typeCode k) (rw t at e)) ∙ type-same k)
 
--- A change of one address is refused, or its values are stored one by one: then these are as many and as wide as the elements.
+-- A change of one address fails, or its values are stored one by one: then these are as many and as wide as the elements.
 pub record Stores (a : Address) (b : Block) (r : Row) (n : ℕ) : Type 0 where
   pub passed : checked a ≡ Elements r n
   pub named : Named a r n
@@ -120,7 +66,7 @@ pub record Stores (a : Address) (b : Block) (r : Row) (n : ℕ) : Type 0 where
   pub count : length (b .values) ≡ n
 
 module _ (a : Address) (f : AddressFits a) (b : Block) (p : List ℕ) (P : Changed → Type 0)
-    (refuses : (e : ℕ) → e < 65536 → P (refused e p))
+    (refuses : (e : ℕ) → e < 65536 → P (failure e p))
     (stores : (r : Row) (n : ℕ) → Stores a b r n → P (storeFrom r (a .subindex) (b .values) p)) where
   elements-cases : (r : Row) (n : ℕ) → checked a ≡ Elements r n → Named a r n → P (ofElements a b p r n)
   elements-cases r n s h =
@@ -140,7 +86,7 @@ module _ (a : Address) (f : AddressFits a) (b : Block) (p : List ℕ) (P : Chang
 
   pub change-cases : P (changeOne a b p)
   unfolding changeOne
-  change-cases = go (checked a) refl (checked-fits a f)
+  change-cases = go (checked a) refl (checked-fits a)
     where
       go : (c : Checked) → checked a ≡ c → CheckedFits a c → P (ofChecked a b p c)
       go (Error e) s small = refuses e small
@@ -151,11 +97,11 @@ error-fits : (id e : ℕ) → blockFits id 0x44 1 ≡ true → e < 65536 → Blo
 unfolding sizeOf
 error-fits id e allowed small = record { format = lit< tt; number = lit< tt; allowed = allowed; values = (small, tt) }
 
-error-size : (e : ℕ) → sizeOfBlock (errorBlock e) ≡ 4
+error-size : (e : ℕ) → blockSize (errorBlock e) ≡ 4
 unfolding valuesSize valuesOf sizeOf
 error-size e = refl
 
-empty-size : sizeOfBlock emptyBlock ≡ 2
+empty-size : blockSize emptyBlock ≡ 2
 unfolding valuesSize valuesOf sizeOf formatSize
 empty-size = refl
 
@@ -165,10 +111,10 @@ record Run (id used n : ℕ) (bs : List Block) : Type 0 where
   count : length bs ≡ n
   short : used + length (writeAll blockBytes bs) ≤ blockLimit
 
-block-size : (b : Block) → length (blockBytes b) ≡ sizeOfBlock b
+block-size : (b : Block) → length (blockBytes b) ≡ blockSize b
 block-size b = sym (block-written (b .format) (length (b .values)) (b .values) refl)
 
-one-more : (id used n : ℕ) (b : Block) (bs : List Block) → BlockFits id b → Run id (used + sizeOfBlock b) n bs → Run id used (suc n) (b ∷ bs)
+one-more : (id used n : ℕ) (b : Block) (bs : List Block) → BlockFits id b → Run id (used + blockSize b) n bs → Run id used (suc n) (b ∷ bs)
 one-more id used n b bs f run =
     record {
       fits = (f, run .fits);
@@ -212,7 +158,7 @@ values-fit r i n p some few =
 -- the block for one address, with room for it and the addresses after it
 module _ (p : List ℕ) (used after : ℕ) (room : used + 4 + 4 * after ≤ blockLimit) where
   abbrev Leaves : Block → Type 0
-  Leaves b = BlockFits 0x81 b × (used + sizeOfBlock b + 4 * after ≤ blockLimit)
+  Leaves b = BlockFits 0x81 b × (used + blockSize b + 4 * after ≤ blockLimit)
 
   leaves-error : (e : ℕ) → e < 65536 → Leaves (errorBlock e)
   unfolding blockFits
@@ -220,15 +166,15 @@ module _ (p : List ℕ) (used after : ℕ) (room : used + 4 + 4 * after ≤ bloc
 
   read-one : (a : Address) → AddressFits a → Leaves (readBlock p used after a)
   unfolding readBlock
-  read-one a f = go (checked a) (checked-fits a f)
+  read-one a f = go (checked a) (checked-fits a)
     where
       go : (c : Checked) → CheckedFits a c → Leaves (answerTo p used after a c)
       go (Error e) small = leaves-error e small
       go (Elements r n) h =
           let b : Block = record { format = sizeCode (r .kind); values = elementsFrom r (a .subindex) n p } in
-          let size = used + sizeOfBlock b + 4 * after in
+          let size = used + blockSize b + 4 * after in
           pick Leaves (leb size blockLimit)
-          (λ t. (values-fit r (a .subindex) n p (h .some) (h .few), leb-true size blockLimit t))
+          (λ t. (values-fit r (a .subindex) n p (h .some) (omega (arith, h .room, h .short)), leb-true size blockLimit t))
           (λ t. leaves-error 0x15 (lit< tt))
 
 read-all : (p : List ℕ) (used : ℕ) (them : List Address) → AllOf AddressFits them → used + 4 * length them ≤ blockLimit → Run 0x81 used (length them) (readBlocks p used them)
@@ -236,11 +182,11 @@ read-all p used [] f room = record { fits = tt; count = refl; short = omega arit
 read-all p used (a ∷ more) f room =
     let b = readBlock p used (length more) a in
     let one = read-one p used (length more) (omega arith) a (f .0) in
-    one-more 0x81 used (length more) b _ (one .0) (read-all p (used + sizeOfBlock b) more (f .1) (one .1))
+    one-more 0x81 used (length more) b _ (one .0) (read-all p (used + blockSize b) more (f .1) (one .1))
 
 -- A change (02): an error word or `40 00` for each address.
 abbrev Small : Block → Type 0
-Small b = BlockFits 0x82 b × (sizeOfBlock b ≤ 4)
+Small b = BlockFits 0x82 b × (blockSize b ≤ 4)
 
 small-error : (e : ℕ) → e < 65536 → Small (errorBlock e)
 unfolding blockFits
@@ -251,7 +197,7 @@ unfolding blockFits
 small-empty = (record { format = lit< tt; number = lit< tt; allowed = refl; values = tt }, omega (arith, empty-size))
 
 abbrev AnswerSmall : Changed → Type 0
-AnswerSmall c = Small (c .answer)
+AnswerSmall c = Small (c .block)
 
 store-answer : (r : Row) (i : ℕ) (xs p : List ℕ) → AnswerSmall (storeFrom r i xs p)
 store-answer r i [] p = small-empty
@@ -261,14 +207,14 @@ store-answer r i (x ∷ xs) p =
 change-one : (a : Address) → AddressFits a → (b : Block) (p : List ℕ) → AnswerSmall (changeOne a b p)
 change-one a f b p = change-cases a f b p AnswerSmall small-error (λ r n s. store-answer r (a .subindex) (b .values) p)
 
-change-all : (them : List Address) (bs : List Block) (p : List ℕ) (used : ℕ) → AllOf AddressFits them → length bs ≡ length them → used + 4 * length them ≤ blockLimit → Run 0x82 used (length them) (changeAll them bs p .answers)
+change-all : (them : List Address) (bs : List Block) (p : List ℕ) (used : ℕ) → AllOf AddressFits them → length bs ≡ length them → used + 4 * length them ≤ blockLimit → Run 0x82 used (length them) (changeAll them bs p .blocks)
 change-all [] bs p used f e room = record { fits = tt; count = refl; short = omega arith }
 change-all (a ∷ more) [] p used f e room = absurd (omega arith)
 change-all (a ∷ more) (b ∷ bs) p used f e room =
     let c = changeOne a b p in
     let one = change-one a (f .0) b p in
-    one-more 0x82 used (length more) (c .answer) _ (one .0)
-    (change-all more bs (c .part) (used + sizeOfBlock (c .answer)) (f .1) (omega arith) (omega (arith, one .1)))
+    one-more 0x82 used (length more) (c .block) _ (one .0)
+    (change-all more bs (c .part) (used + blockSize (c .block)) (f .1) (omega arith) (omega (arith, one .1)))
 
 -- where no block is an error, all are value blocks
 value-block : (b : Block) → BlockFits 0x81 b → isError b ≡ false → BlockFits 1 b
@@ -339,7 +285,7 @@ module _ (r : Request) (f : RequestFits r) where
   reads : (p : List ℕ) → Run 0x81 4 (length (r .addresses)) (readBlocks p 4 (r .addresses))
   reads p = read-all p 4 (r .addresses) (f .addresses) room
 
-  changes : (p : List ℕ) → eqb (r .identifier) 1 ≡ false → Run 0x82 4 (length (r .addresses)) (changeAll (r .addresses) (r .blocks) p .answers)
+  changes : (p : List ℕ) → eqb (r .identifier) 1 ≡ false → Run 0x82 4 (length (r .addresses)) (changeAll (r .addresses) (r .blocks) p .blocks)
   changes p e = change-all (r .addresses) (r .blocks) p 4 (f .addresses) (block-each e) room
 
   all-answers : (p : List ℕ) → Answers (worked r p .response)
@@ -347,7 +293,7 @@ module _ (r : Request) (f : RequestFits r) where
   all-answers p =
       pick (λ (w : Worked). Answers (w .response)) (eqb (r .identifier) 1)
       (λ e. read-answers (readBlocks p 4 (r .addresses)) (reads p))
-      (λ e. change-answers (changeAll (r .addresses) (r .blocks) p .answers) (changes p e))
+      (λ e. change-answers (changeAll (r .addresses) (r .blocks) p .blocks) (changes p e))
 
 pub answer-fits : AnswerFits
 answer-fits r p f = all-answers r f p .fits
@@ -365,7 +311,7 @@ unfolding worked
 answers-header r p =
     pick (λ (w : Worked). SameHeader r (w .response)) (eqb (r .identifier) 1)
     (λ e. same _)
-    (λ e. pick (SameHeader r) (hasError (changeAll (r .addresses) (r .blocks) p .answers)) (λ t. same _) (λ t. same _))
+    (λ e. pick (SameHeader r) (hasError (changeAll (r .addresses) (r .blocks) p .blocks)) (λ t. same _) (λ t. same _))
   where
     same : {id : ℕ} (bs : List Block) → SameHeader r (answerOf r id bs)
     same bs = record { reference = refl; axis = refl; count = refl }
@@ -383,14 +329,14 @@ pub answers-blocks : AnswersBlocks
 unfolding worked
 answers-blocks r p =
     cases (eqb (r .identifier) 1) (λ e. rw e)
-    (λ e. rw e (cases (hasError (changeAll (r .addresses) (r .blocks) p .answers)) (λ h. rw h) (λ h. rw h)))
+    (λ e. rw e (cases (hasError (changeAll (r .addresses) (r .blocks) p .blocks)) (λ h. rw h) (λ h. rw h)))
 
 pub answers-identifier : AnswersIdentifier
 unfolding worked
 answers-identifier r p f =
     cases (eqb (r .identifier) 1)
     (λ e. rw (e, eqb-true (r .identifier) 1 e))
-    (λ e. rw (e, is-change r f e) (cases (hasError (changeAll (r .addresses) (r .blocks) p .answers)) (λ h. rw h) (λ h. rw h)))
+    (λ e. rw (e, is-change r f e) (cases (hasError (changeAll (r .addresses) (r .blocks) p .blocks)) (λ h. rw h) (λ h. rw h)))
 
 pub failure-answered : FailureAnswered
 failure-answered r p f = (fails (hasError (blocksOf r p)) (answers-identifier r p f), shows)

@@ -9,7 +9,7 @@ use lib.ListN.{length, drop}
 use Rattle.codes.specs.Code.{Got, got, bad, andThen, readTimes}
 use Rattle.codes.specs.Number.{valueOr}
 use Rattle.codes.proofs.Put.{put-length}
-use Rattle.drive.specs.Faults.{buffer}
+use Rattle.drive.specs.Faults.{bufferCodes}
 use Rattle.blocks.specs.Block.{Block, blockLimit, block}
 use Rattle.blocks.specs.Page.{blockBytes}
 use Rattle.blocks.specs.Place.{stepAt, blockAt, walk}
@@ -26,7 +26,7 @@ use Rattle.access.specs.Walk.{Wrote, blockIn, blocksIn, answerIn, Did, D
 use Rattle.access.proofs.Filled.{sofar, one, all, one-wrote, all-wrote}
 use Rattle.access.proofs.Reading.{walk-next}
 use Rattle.access.proofs.Answering.{answer-short, answers-short}
-use Rattle.access.proofs.Refusing.{block-in}
+use Rattle.access.proofs.Failing.{block-in}
 
 -- blocks are left, so one stands here
 pub blocks-end : (s : List ℕ) (from left : ℕ) → 0 < left → length (blocksIn left s from) ≡ left → blockAt 2 s from ≡ Nothing → ⊥
@@ -56,10 +56,10 @@ pub record Changing (s : List ℕ) (n : ℕ) (p₀ out₀ p out : List ℕ) (at 
   pub whole : length (walk left s at) ≡ left
   pub valued : length (blocksIn left s from) ≡ left
   pub room : so .next + 4 * left ≤ blockLimit
-  pub few : so .stored + buffer * left ≤ buffer * 39
+  pub few : so .stored + bufferCodes * left ≤ bufferCodes * 39
   pub size : length out ≡ length out₀
   pub kept : length p ≡ length p₀
-  pub answers : all (ahead s left at from p .answers) (sofar out (so .next) (so .error)) ≡ all (ahead s n 4 (4 + n * 6) p₀ .answers) (sofar out₀ 4 false)
+  pub blocks : all (ahead s left at from p .blocks) (sofar out (so .next) (so .error)) ≡ all (ahead s n 4 (4 + n * 6) p₀ .blocks) (sofar out₀ 4 false)
   pub leaves : ahead s left at from p .part ≡ ahead s n 4 (4 + n * 6) p₀ .part
   pub counts : so .stored + ahead s left at from p .stored ≡ ahead s n 4 (4 + n * 6) p₀ .stored
 
@@ -82,11 +82,11 @@ module _ (s : List ℕ) (n : ℕ) (p₀ out₀ p out : List ℕ) (at from : ℕ)
           few = omega (arith, did .few, c .few);
           size = ap length (o .bytes) ∙ (put-length out (so .next) (blockBytes (answerIn d)) ∙ c .size);
           kept = kept ∙ c .kept;
-          answers =
-              ap (λ (y : Bool). all (rest .answers) (sofar m (w .next) y)) ee
-              ∙ (ap (all (rest .answers)) (one-wrote out m (so .next) (answerIn d) w (so .error) o)
-              ∙ (ap (λ (b : Block). all (rest .answers) (one b (sofar out (so .next) (so .error)))) (did .answer)
-              ∙ (ap (λ (y : ChangedAll). all (y .answers) (sofar out (so .next) (so .error))) (sym turned) ∙ c .answers)));
+          blocks =
+              ap (λ (y : Bool). all (rest .blocks) (sofar m (w .next) y)) ee
+              ∙ (ap (all (rest .blocks)) (one-wrote out m (so .next) (answerIn d) w (so .error) o)
+              ∙ (ap (λ (b : Block). all (rest .blocks) (one b (sofar out (so .next) (so .error)))) (did .block)
+              ∙ (ap (λ (y : ChangedAll). all (y .blocks) (sofar out (so .next) (so .error))) (sym turned) ∙ c .blocks)));
           leaves = ap (λ (y : ChangedAll). y .part) (sym turned) ∙ c .leaves;
           counts = omega (arith, did .stored, ap (λ (y : ChangedAll). y .stored) turned, c .counts);
         }
@@ -97,12 +97,12 @@ module _ (s : List ℕ) (n : ℕ) (p₀ out₀ p out : List ℕ) (at from : ℕ)
 
   pub finish : (left : ℕ) → left ≡ 0 → length (walk n s 4) ≡ n → n ≤ 39 → length out₀ ≡ blockLimit → Changing s n p₀ out₀ p out at from left so → DidAll (ahead s n 4 (4 + n * 6) p₀) p out₀ out so
   finish left z w few size c =
-      let none : ahead s left at from p ≡ record { answers = []; part = p; stored = 0 } = rw z in
+      let none : ahead s left at from p ≡ record { blocks = []; part = p; stored = 0 } = rw z in
       record {
         wrote =
-            all-wrote (ahead s n 4 (4 + n * 6) p₀ .answers) out₀ out 4 (record { next = so .next; error = so .error })
+            all-wrote (ahead s n 4 (4 + n * 6) p₀ .blocks) out₀ out 4 (record { next = so .next; error = so .error })
             (omega (arith, answers-short (walk n s 4) (blocksIn n s (4 + n * 6)) p₀))
-            (ap (λ (y : ChangedAll). all (y .answers) (sofar out (so .next) (so .error))) (sym none) ∙ c .answers);
+            (ap (λ (y : ChangedAll). all (y .blocks) (sofar out (so .next) (so .error))) (sym none) ∙ c .blocks);
         part = ap (λ (y : ChangedAll). y .part) (sym none) ∙ c .leaves;
         stored = omega (arith, ap (λ (y : ChangedAll). y .stored) none, c .counts);
       }

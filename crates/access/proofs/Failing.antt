@@ -19,12 +19,12 @@ use Rattle.catalogue.specs.Element.{sizeCode, typeCode}
 use Rattle.access.specs.declared.Checked.{Checked}
 use Rattle.access.specs.declared.change.Done.{Done}
 use Rattle.access.specs.Address.{checked, emptyBlock}
-use Rattle.access.specs.Change.{Changed, refused, storeFrom, ofElements, ofChecked, changeOne}
+use Rattle.access.specs.Change.{Changed, failure, storeFrom, ofElements, ofChecked, changeOne}
 use Rattle.access.specs.Walk.{blockIn, Did}
 
 -- nothing is stored
-pub did-refused : (e : ℕ) (p : List ℕ) (d : Done) → d ≡ record { failed = true; error = e; stored = 0 } → Did (refused e p) p d
-did-refused e p d q = rw q (record { answer = refl; part = refl; stored = refl; few = omega arith })
+pub did-fail : (e : ℕ) (p : List ℕ) (d : Done) → d ≡ record { failed = true; error = e; stored = 0 } → Did (failure e p) p d
+did-fail e p d q = rw q (record { block = refl; part = refl; stored = refl; few = omega arith })
 
 -- the head that the code has is that of the block
 module _ (s : List ℕ) (at : ℕ) (h : Head) (st : blockAt 2 s at ≡ Stands h) where
@@ -48,19 +48,19 @@ passed w f z c₁ c₂ c₃ c ew ef ez = rw (ew, ef, ez)
 
 -- the tests of an address that names n elements of a row, with a block of format f and of k values
 module _ (a : Address) (b : Block) (p m : List ℕ) (r : Row) (n f k : ℕ) (d : Done) (ef : f ≡ b .format) (ek : k ≡ length (b .values)) where
-  pub is-locked : r .writable ≡ false → Did (refused 0x01 p) m d → Did (ofElements a b p r n) m d
+  pub is-locked : r .writable ≡ false → Did (failure 0x01 p) m d → Did (ofElements a b p r n) m d
   is-locked w o = rw w o
 
   module _ (w : r .writable ≡ true) where
-    pub is-alien : (eqb f (sizeCode (r .kind)) || eqb f (typeCode (r .kind))) ≡ false → Did (refused 0x05 p) m d → Did (ofElements a b p r n) m d
+    pub is-alien : (eqb f (sizeCode (r .kind)) || eqb f (typeCode (r .kind))) ≡ false → Did (failure 0x05 p) m d → Did (ofElements a b p r n) m d
     is-alien e o = rw (w, ← ef, e) o
 
     module _ (e : (eqb f (sizeCode (r .kind)) || eqb f (typeCode (r .kind))) ≡ true) where
-      pub is-miscounted : (k ≡ n → ⊥) → Did (refused 0x18 p) m d → Did (ofElements a b p r n) m d
+      pub is-miscounted : (k ≡ n → ⊥) → Did (failure 0x18 p) m d → Did (ofElements a b p r n) m d
       is-miscounted z o = rw (w, ← ef, e, ← ek, ne-eqb k n z) o
 
       pub is-stored : k ≡ n → Did (storeFrom r (a .subindex) (b .values) p) m d → Did (ofElements a b p r n) m d
       is-stored z o =
           subst (λ (c : Changed). Did c m d)
-          (passed (r .writable) (eqb (b .format) (sizeCode (r .kind)) || eqb (b .format) (typeCode (r .kind))) (eqb (length (b .values)) n) (refused 0x01 p) (refused 0x05 p) (refused 0x18 p) (storeFrom r (a .subindex) (b .values) p) w (rw (← ef) e) (eq-eqb (length (b .values)) n (sym ek ∙ z)))
+          (passed (r .writable) (eqb (b .format) (sizeCode (r .kind)) || eqb (b .format) (typeCode (r .kind))) (eqb (length (b .values)) n) (failure 0x01 p) (failure 0x05 p) (failure 0x18 p) (storeFrom r (a .subindex) (b .values) p) w (rw (← ef) e) (eq-eqb (length (b .values)) n (sym ek ∙ z)))
           o

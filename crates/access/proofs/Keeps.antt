@@ -19,11 +19,11 @@ use Rattle.blocks.specs.Page.{AddressFits, BlockFits, RequestFits}
 use Rattle.blocks.proofs.Sound.{request-sound}
 use Rattle.blocks.proofs.Page.{request-valid}
 use Rattle.blocks.specs.declared.reader.Address.{Address}
-use Rattle.drive.specs.Faults.{situations, buffer, allProper}
+use Rattle.drive.specs.Faults.{situations, bufferCodes, allProper}
 use Rattle.catalogue.specs.declared.Row.{Row}
 use Rattle.catalogue.specs.declared.Found.the-variants.{At}
-use Rattle.catalogue.specs.Table.{rows, parameterBytes, findOf, offsetOf, sizeOf as elementSize}
-use Rattle.catalogue.specs.Element.{placeOf, inside, elementOf, putElement, freshOf}
+use Rattle.catalogue.specs.Table.{rows, parameterBytes, findOf, offsetOf, elementSize}
+use Rattle.catalogue.specs.Element.{elementPlace, inside, elementOf, putElement, freshOf}
 use Rattle.catalogue.proofs.Elements.{element-length, element-stored, element-unstored}
 use Rattle.catalogue.proofs.Rows.{found-row, every-row, element-elsewhere, element-rest}
 use Rattle.part.specs.Layout.{stateAt, lengthAt, responseAt, partSize, withResponse}
@@ -32,8 +32,9 @@ use Rattle.part.specs.WellFormed.{isState, everyElement, everyRow, limitsFit, f
 use Rattle.part.proofs.Laws.{response-well-formed}
 use Rattle.access.specs.Change.{Changed, storeFrom, changeOne, changeAll}
 use Rattle.access.specs.Work.{Worked, worked, Outcome, takenIf, outcomeOf}
-use Rattle.access.specs.Laws.{ReadKeeps, Names, Asked, Allowed, Kept, OnlyAskedChanges, StaysWellFormed, OutcomeWellFormed}
-use Rattle.access.proofs.Answers.{pick, Stores, change-cases, is-change, answer-readable, answer-axis}
+use Rattle.access.specs.Laws.{ReadKeeps, Names, Asked, Allowed, Kept, OnlyAskedChanges, RequestKeepsWellFormed, BlockKeepsWellFormed}
+use Rattle.access.proofs.Checks.{pick}
+use Rattle.access.proofs.Answers.{Stores, change-cases, is-change, answer-readable, answer-axis}
 
 pub read-keeps : ReadKeeps
 unfolding worked
@@ -76,13 +77,13 @@ module _ (r : Row) (m : List·Memᴰ r rows) where
       record {
         size = element-length r i x p;
         beyond = element-rest r m i k x p;
-        elements = λ q n j h. go q j (decLe (placeOf r i + elementSize (r .kind)) (length p)) (element-elsewhere q r n m j i h k x p);
+        elements = λ q n j h. go q j (decLe (elementPlace r i + elementSize (r .kind)) (length p)) (element-elsewhere q r n m j i h k x p);
       }
     where
       after : List ℕ
       after = putElement r i x p
 
-      go : (q : Row) (j : ℕ) → Dec (placeOf r i + elementSize (r .kind) ≤ length p) → ((q ≡ r) × (j ≡ i)) ⊎ (elementOf q j after ≡ elementOf q j p) → Allowed (Among r i 1) p after q j
+      go : (q : Row) (j : ℕ) → Dec (elementPlace r i + elementSize (r .kind) ≤ length p) → ((q ≡ r) × (j ≡ i)) ⊎ (elementOf q j after ≡ elementOf q j p) → Allowed (Among r i 1) p after q j
       go q j d (inr e) = inl e
       go q j (yes room) (inl s) = inr ((s .0, omega (arith, s .1), omega (arith, s .1)), rw (s .0, s .1, element-stored r i x p room small) ok)
       go q j (no n) (inl s) = inl (ap (elementOf q j) (element-unstored r i x p (omega arith)))
@@ -196,7 +197,7 @@ module _ (May : Row → ℕ → Type 0) (writes : (q : Row) (j : ℕ) → May q 
   words-kept pnu q e two shut =
       rw e (words-same (q .count) (q .offset) after p (λ j h. rw two at (unwritten q (found-row pnu q e) shut j h)))
 
-  faults-kept : wordsAt buffer after (offsetOf 947) ≡ wordsAt buffer p (offsetOf 947)
+  faults-kept : wordsAt bufferCodes after (offsetOf 947) ≡ wordsAt bufferCodes p (offsetOf 947)
   unfolding findOf rows
   faults-kept = words-kept 947 _ refl refl refl
 
@@ -228,21 +229,21 @@ module _ (May : Row → ℕ → Type 0) (writes : (q : Row) (j : ℕ) → May q 
       same : {a b : Bool} → b ≡ a → a ≡ true → b ≡ true
       same e t = e ∙ t
 
-pub stays-well-formed : StaysWellFormed
-stays-well-formed axis r p f = well-formed-kept (Asked (r .addresses)) (λ q j a. a .writable) p (worked r p .part) (only-asked-changes r p f) axis
+pub request-keeps-well-formed : RequestKeepsWellFormed
+request-keeps-well-formed axis r p f = well-formed-kept (Asked (r .addresses)) (λ q j a. a .writable) p (worked r p .part) (only-asked-changes r p f) axis
 
 -- and with the response waiting in it
 pub answer-waits : (axis : ℕ) (r : Request) (p : List ℕ) → RequestFits r → r .axis ≡ axis → wellFormed axis p ≡ true
     → wellFormed axis (withResponse (response .write (worked r p .response)) (worked r p .part)) ≡ true
 answer-waits axis r p f e w =
-    response-well-formed axis (worked r p .part) (stays-well-formed axis r p f w)
+    response-well-formed axis (worked r p .part) (request-keeps-well-formed axis r p f w)
     (response .write (worked r p .response))
     (answer-readable r p f)
     (answer-axis r p f ∙ e)
 
-pub outcome-well-formed : OutcomeWellFormed
+pub block-keeps-well-formed : BlockKeepsWellFormed
 unfolding outcomeOf
-outcome-well-formed axis s p w = go (request .read s) refl
+block-keeps-well-formed axis s p w = go (request .read s) refl
   where
     Good : Outcome → Type 0
     Good o = wellFormed axis (o .part) ≡ true

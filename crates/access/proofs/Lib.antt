@@ -5,7 +5,7 @@ pub mod Filled
 pub mod Reading
 pub mod Storing
 pub mod Answering
-pub mod Refusing
+pub mod Failing
 pub mod Changing
 pub mod Requested
 pub mod Responding

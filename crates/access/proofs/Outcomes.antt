@@ -10,8 +10,8 @@ use Rattle.blocks.specs.Block.{blockLimit}
 use Rattle.blocks.specs.Place.{headerOf}
 use Rattle.blocks.specs.Request.{Request, request}
 use Rattle.blocks.specs.declared.Header.{Header}
-use Rattle.access.specs.Work.{Worked, read, change, worked, takenIf, outcomeOf}
-use Rattle.access.specs.Walk.{requestIn, leaves}
+use Rattle.access.specs.Work.{Worked, workedRead, workedChange, worked, takenIf, outcomeOf}
+use Rattle.access.specs.Walk.{requestIn, respondedPart}
 use Rattle.access.proofs.Requested.{request-read, header-is}
 
 pub unreadable : (axis : ℕ) (s p : List ℕ) → readable blockLimit request s ≡ false → outcomeOf axis s p ≡ record { number = 10; stored = 0; part = p }
@@ -26,25 +26,25 @@ module _ (axis : ℕ) (s p : List ℕ) (e : readable blockLimit request s ≡ tr
   abbrev r : Request
   r = requestIn s
 
-  by-axis : (t : Bool) → eqb (h .axis) axis ≡ t → outcomeOf axis s p ≡ cond t (record { number = 0; stored = worked r p .stored; part = leaves (worked r p) }) (record { number = 11; stored = 0; part = p })
+  by-axis : (t : Bool) → eqb (h .axis) axis ≡ t → outcomeOf axis s p ≡ cond t (record { number = 0; stored = worked r p .stored; part = respondedPart (worked r p) }) (record { number = 11; stored = 0; part = p })
   unfolding outcomeOf
   by-axis t k =
       ap (λ (x : Bool). takenIf axis p x (request .read s)) e
       ∙ (ap (takenIf axis p true) (request-read s e)
-      ∙ ap (λ (x : Bool). cond x (record { number = 0; stored = worked r p .stored; part = leaves (worked r p) }) (record { number = 11; stored = 0; part = p })) (ap (λ (x : Header). eqb (x .axis) axis) (sym (header-is s e h eh)) ∙ k))
+      ∙ ap (λ (x : Bool). cond x (record { number = 0; stored = worked r p .stored; part = respondedPart (worked r p) }) (record { number = 11; stored = 0; part = p })) (ap (λ (x : Header). eqb (x .axis) axis) (sym (header-is s e h eh)) ∙ k))
 
   pub foreign : (h .axis ≡ axis → ⊥) → outcomeOf axis s p ≡ record { number = 11; stored = 0; part = p }
   foreign n = by-axis false (ne-eqb (h .axis) axis n)
 
-  own : (w : Worked) → worked r p ≡ w → h .axis ≡ axis → outcomeOf axis s p ≡ record { number = 0; stored = w .stored; part = leaves w }
-  own w k m = by-axis true (eq-eqb (h .axis) axis m) ∙ ap (λ (x : Worked). record { number = 0; stored = x .stored; part = leaves x }) k
+  own : (w : Worked) → worked r p ≡ w → h .axis ≡ axis → outcomeOf axis s p ≡ record { number = 0; stored = w .stored; part = respondedPart w }
+  own w k m = by-axis true (eq-eqb (h .axis) axis m) ∙ ap (λ (x : Worked). record { number = 0; stored = x .stored; part = respondedPart x }) k
 
-  by-identifier : (t : Bool) → eqb (h .identifier) 1 ≡ t → worked r p ≡ cond t (read r p) (change r p)
+  by-identifier : (t : Bool) → eqb (h .identifier) 1 ≡ t → worked r p ≡ cond t (workedRead r p) (workedChange r p)
   unfolding worked
-  by-identifier t k = ap (λ (x : Bool). cond x (read r p) (change r p)) (ap (λ (x : Header). eqb (x .identifier) 1) (sym (header-is s e h eh)) ∙ k)
+  by-identifier t k = ap (λ (x : Bool). cond x (workedRead r p) (workedChange r p)) (ap (λ (x : Header). eqb (x .identifier) 1) (sym (header-is s e h eh)) ∙ k)
 
-  pub is-read : h .axis ≡ axis → h .identifier ≡ 1 → outcomeOf axis s p ≡ record { number = 0; stored = 0; part = leaves (read r p) }
-  is-read m k = own (read r p) (by-identifier true (eq-eqb (h .identifier) 1 k)) m
+  pub is-read : h .axis ≡ axis → h .identifier ≡ 1 → outcomeOf axis s p ≡ record { number = 0; stored = 0; part = respondedPart (workedRead r p) }
+  is-read m k = own (workedRead r p) (by-identifier true (eq-eqb (h .identifier) 1 k)) m
 
-  pub is-changed : h .axis ≡ axis → (h .identifier ≡ 1 → ⊥) → outcomeOf axis s p ≡ record { number = 0; stored = change r p .stored; part = leaves (change r p) }
-  is-changed m n = own (change r p) (by-identifier false (ne-eqb (h .identifier) 1 n)) m
+  pub is-changed : h .axis ≡ axis → (h .identifier ≡ 1 → ⊥) → outcomeOf axis s p ≡ record { number = 0; stored = workedChange r p .stored; part = respondedPart (workedChange r p) }
+  is-changed m n = own (workedChange r p) (by-identifier false (ne-eqb (h .identifier) 1 n)) m

@@ -14,7 +14,7 @@ use Rattle.blocks.specs.declared.reader.Address.{Address}
 use Rattle.blocks.specs.declared.reader.Step.{Step}
 use Rattle.blocks.specs.declared.reader.Step.the-variants.{Next, End}
 use Rattle.access.specs.declared.reply.Written.{Written}
-use Rattle.access.specs.Read.{sizeOfBlock, readBlock, readBlocks}
+use Rattle.access.specs.Read.{blockSize, readBlock, readBlocks}
 use Rattle.access.specs.Walk.{Wrote, WroteAll}
 use Rattle.access.proofs.Filled.{sofar, one, all, one-wrote, all-wrote}
 use Rattle.access.proofs.Room.{size-written, block-room, blocks-room}
@@ -41,7 +41,7 @@ module _ (p s : List ℕ) (n : ℕ) (out₀ out : List ℕ) (at used : ℕ) (err
       let b = readBlock p used left a in
       let k = walk-next s at left a next e in
       let whole : length more ≡ left = omega (arith, ap length k) in
-      let done : used + sizeOfBlock b ≡ w .next = ap (λ (x : ℕ). used + x) (size-written b) ∙ sym (o .next) in
+      let done : used + blockSize b ≡ w .next = ap (λ (x : ℕ). used + x) (size-written b) ∙ sym (o .next) in
       record {
         whole = whole;
         room = omega (arith, block-room p used left (r .room) a, o .next);
@@ -49,7 +49,7 @@ module _ (p s : List ℕ) (n : ℕ) (out₀ out : List ℕ) (at used : ℕ) (err
         todo =
             ap (all (readBlocks p (w .next) more)) (one-wrote out m used b w error o)
             ∙ (ap (λ (x : ℕ). all (readBlocks p x more) (one b (sofar out used error))) (sym done)
-            ∙ (ap (λ (x : ℕ). let y = readBlock p used x a in all (readBlocks p (used + sizeOfBlock y) more) (one y (sofar out used error))) (sym whole)
+            ∙ (ap (λ (x : ℕ). let y = readBlock p used x a in all (readBlocks p (used + blockSize y) more) (one y (sofar out used error))) (sym whole)
             ∙ (ap (λ (l : List Address). all (readBlocks p used l) (sofar out used error)) (sym k) ∙ r .todo)));
       }
 

@@ -22,8 +22,8 @@ use Rattle.access.specs.declared.reply.Written.{Written}
 use Rattle.access.specs.declared.change.Changes.{Changes}
 use Rattle.access.specs.Read.{readBlocks}
 use Rattle.access.specs.Change.{ChangedAll, changeAll}
-use Rattle.access.specs.Work.{answerOf, read, change}
-use Rattle.access.specs.Walk.{WroteAll, DidAll, blocksIn, requestIn, leaves}
+use Rattle.access.specs.Work.{answerOf, workedRead, workedChange}
+use Rattle.access.specs.Walk.{WroteAll, DidAll, blocksIn, requestIn, respondedPart}
 use Rattle.access.proofs.Room.{blocks-room}
 use Rattle.access.proofs.Answering.{answers-short}
 use Rattle.access.proofs.Requested.{header-is, count-few, walk-is, walk-whole, blocks-are}
@@ -67,7 +67,7 @@ module _ (s : List ℕ) (e : readable blockLimit request s ≡ true) (h : Header
         let b = blocks-room p (walk (h .count) s 4) 4 (omega (arith, walk-whole s e h eh, count-few s e h eh)) in
         (omega (arith, o .next), omega (arith, o .next))
 
-    pub read-leaves : (t : Bool) → w .error ≡ t → (m : List ℕ) → m ≡ withResponse (headerBytes (named h (cond t 0x81 0x01)) ++ take (w .next - 4) (drop 4 body)) p → m ≡ leaves (read r p)
+    pub read-leaves : (t : Bool) → w .error ≡ t → (m : List ℕ) → m ≡ withResponse (headerBytes (named h (cond t 0x81 0x01)) ++ take (w .next - 4) (drop 4 body)) p → m ≡ respondedPart (workedRead r p)
     read-leaves t q m k =
         let bs = readBlocks p 4 (r .addresses) in
         let same : WroteAll l body 4 bs w = subst (λ (them : List Address). WroteAll l body 4 (readBlocks p 4 them) w) (walk-is s e h eh) o in
@@ -89,17 +89,17 @@ module _ (s : List ℕ) (e : readable blockLimit request s ≡ true) (h : Header
         subst (λ (bs : List Block). DidAll (changeAll (r .addresses) bs p) q l body d) (blocks-are s e h eh no)
         (subst (λ (them : List Address). DidAll (changeAll them (blocksIn (h .count) s (4 + h .count * 6)) p) q l body d) (walk-is s e h eh) o)
 
-    pub change-stored : d .stored ≡ change r p .stored
+    pub change-stored : d .stored ≡ workedChange r p .stored
     change-stored = same .stored
 
-    pub change-failed : d .error ≡ true → (m : List ℕ) → m ≡ withResponse (headerBytes (named h 0x82) ++ take (d .next - 4) (drop 4 body)) q → m ≡ leaves (change r p)
+    pub change-failed : d .error ≡ true → (m : List ℕ) → m ≡ withResponse (headerBytes (named h 0x82) ++ take (d .next - 4) (drop 4 body)) q → m ≡ respondedPart (workedChange r p)
     change-failed t m k =
-        let f : hasError (c .answers) ≡ true = sym (same .wrote .error) ∙ t in
+        let f : hasError (c .blocks) ≡ true = sym (same .wrote .error) ∙ t in
         k
-        ∙ (ap (λ (x : List ℕ). withResponse x q) (full 0x82 (c .answers) body (record { next = d .next; error = d .error }) (same .wrote) (change-room .1))
+        ∙ (ap (λ (x : List ℕ). withResponse x q) (full 0x82 (c .blocks) body (record { next = d .next; error = d .error }) (same .wrote) (change-room .1))
         ∙ rw (f, same .part) refl)
 
-    pub change-done : d .error ≡ false → (m : List ℕ) → m ≡ withResponse (headerBytes (named h 0x02) ++ take (4 - 4) (drop 4 body)) q → m ≡ leaves (change r p)
+    pub change-done : d .error ≡ false → (m : List ℕ) → m ≡ withResponse (headerBytes (named h 0x02) ++ take (4 - 4) (drop 4 body)) q → m ≡ respondedPart (workedChange r p)
     change-done t m k =
-        let f : hasError (c .answers) ≡ false = sym (same .wrote .error) ∙ t in
+        let f : hasError (c .blocks) ≡ false = sym (same .wrote .error) ∙ t in
         k ∙ (ap (λ (x : List ℕ). withResponse x q) (bare 0x02 []) ∙ rw (f, same .part) refl)

@@ -15,7 +15,7 @@ use Rattle.blocks.specs.Place.{putBlock}
 use Rattle.blocks.specs.declared.reader.Address.{Address}
 use Rattle.blocks.proofs.Blocks.{size-small, values-size}
 use Rattle.blocks.proofs.Parts.{block-written, block-counted, error-bytes}
-use Rattle.drive.specs.Faults.{buffer}
+use Rattle.drive.specs.Faults.{bufferCodes}
 use Rattle.catalogue.specs.declared.Kind.{Kind}
 use Rattle.catalogue.specs.declared.Kind.the-variants.{U8, U16, I16, I32}
 use Rattle.catalogue.specs.declared.Row.{Row}
@@ -23,15 +23,15 @@ use Rattle.catalogue.specs.Element.{sizeCode}
 use Rattle.access.specs.declared.Checked.{Checked}
 use Rattle.access.specs.declared.Checked.the-variants.{Elements, Error}
 use Rattle.access.specs.Address.{checked, errorBlock}
-use Rattle.access.specs.Read.{elementsFrom, sizeOfBlock, fitted, answerTo, readBlock, readBlocks}
+use Rattle.access.specs.Read.{elementsFrom, blockSize, fitted, answerTo, readBlock, readBlocks}
 use Rattle.access.specs.Walk.{Wrote}
 use Rattle.access.proofs.Gathered.{elements-length}
 
 -- values that an array of elements holds take few bytes
-pub values-few : (f n : ℕ) → n ≤ buffer → valuesSize f n ≤ 1020
+pub values-few : (f n : ℕ) → n ≤ bufferCodes → valuesSize f n ≤ 1020
 values-few f n h = rw (values-size f n) (small n _ (omega arith) (size-small f))
 
-pub size-written : (b : Block) → sizeOfBlock b ≡ length (blockBytes b)
+pub size-written : (b : Block) → blockSize b ≡ length (blockBytes b)
 size-written b = block-written (b .format) (length (b .values)) (b .values) refl
 
 pub error-size : (e : ℕ) → length (blockBytes (errorBlock e)) ≡ 4
@@ -49,16 +49,16 @@ module _ (r : Row) (i n : ℕ) (p : List ℕ) (at after f size : ℕ) (code : f 
   abbrev b : Block
   b = record { format = sizeCode (r .kind); values = elementsFrom r i n p }
 
-  size-is : size ≡ sizeOfBlock b
+  size-is : size ≡ blockSize b
   size-is = sized ∙ rw (code, elements-length r p i n)
 
   pub elements-unfit : blockLimit < at + size + 4 * after → errorBlock 0x15 ≡ fitted at after b
-  elements-unfit h = rw (lt-leb (at + sizeOfBlock b + 4 * after) blockLimit (omega (arith, size-is)))
+  elements-unfit h = rw (lt-leb (at + blockSize b + 4 * after) blockLimit (omega (arith, size-is)))
 
   elements-fit : at + size + 4 * after ≤ blockLimit → fitted at after b ≡ b
-  elements-fit h = rw (le-leb (at + sizeOfBlock b + 4 * after) blockLimit (omega (arith, size-is)))
+  elements-fit h = rw (le-leb (at + blockSize b + 4 * after) blockLimit (omega (arith, size-is)))
 
-  pub elements-written : (l m vs : List ℕ) → n ≤ buffer → vs ≡ elementsFrom r i n p → at + size + 4 * after ≤ blockLimit → m ≡ putBlock l at (record { format = f; values = vs }) → Wrote l m at (fitted at after b) (record { next = at + size; error = false })
+  pub elements-written : (l m vs : List ℕ) → n ≤ bufferCodes → vs ≡ elementsFrom r i n p → at + size + 4 * after ≤ blockLimit → m ≡ putBlock l at (record { format = f; values = vs }) → Wrote l m at (fitted at after b) (record { next = at + size; error = false })
   elements-written l m vs few same h e =
       subst (λ (x : Block). Wrote l m at x (record { next = at + size; error = false })) (sym (elements-fit h))
       (record {
@@ -75,10 +75,10 @@ block-is p at after a c e = ap (answerTo p at after a) e
 -- four bytes were kept for this address too: its block leaves them for each after it
 module _ (p : List ℕ) (at after : ℕ) (h : at + 4 * suc after ≤ blockLimit) where
   fitted-room : (b : Block) → at + length (blockBytes (fitted at after b)) + 4 * after ≤ blockLimit
-  fitted-room b = go (leb (at + sizeOfBlock b + 4 * after) blockLimit) refl
+  fitted-room b = go (leb (at + blockSize b + 4 * after) blockLimit) refl
     where
-      go : (t : Bool) → leb (at + sizeOfBlock b + 4 * after) blockLimit ≡ t → at + length (blockBytes (cond t b (errorBlock 0x15))) + 4 * after ≤ blockLimit
-      go true e = omega (arith, leb-true (at + sizeOfBlock b + 4 * after) blockLimit e, size-written b)
+      go : (t : Bool) → leb (at + blockSize b + 4 * after) blockLimit ≡ t → at + length (blockBytes (cond t b (errorBlock 0x15))) + 4 * after ≤ blockLimit
+      go true e = omega (arith, leb-true (at + blockSize b + 4 * after) blockLimit e, size-written b)
       go false e = omega (arith, error-size 0x15)
 
   pub block-room : (a : Address) → at + length (blockBytes (readBlock p at after a)) + 4 * after ≤ blockLimit
@@ -95,5 +95,5 @@ blocks-room p (a ∷ more) at h =
     let b = readBlock p at (length more) a in
     let room = block-room p at (length more) h a in
     let s = size-written b in
-    let rest = blocks-room p more (at + sizeOfBlock b) (omega arith) in
-    omega (arith, length-append (blockBytes b) (writeAll blockBytes (readBlocks p (at + sizeOfBlock b) more)))
+    let rest = blocks-room p more (at + blockSize b) (omega arith) in
+    omega (arith, length-append (blockBytes b) (writeAll blockBytes (readBlocks p (at + blockSize b) more)))

@@ -51,7 +51,7 @@ AnswerAxis = (r : Request) (p : List ℕ) → RequestFits r → headerOf (respon
 
 -- the blocks that the addresses come to, one for each; an error block where the parameter failed
 abbrev pub blocksOf : Request → List ℕ → List Block
-blocksOf r p = cond (eqb (r .identifier) 1) (readBlocks p 4 (r .addresses)) (changeAll (r .addresses) (r .blocks) p .answers)
+blocksOf r p = cond (eqb (r .identifier) 1) (readBlocks p 4 (r .addresses)) (changeAll (r .addresses) (r .blocks) p .blocks)
 
 abbrev pub OneEach : Type 0
 OneEach = (r : Request) (p : List ℕ) → RequestFits r → length (blocksOf r p) ≡ length (r .addresses)
@@ -109,10 +109,10 @@ abbrev pub OnlyAskedChanges : Type 0
 OnlyAskedChanges = (r : Request) (p : List ℕ) → RequestFits r → Kept (Asked (r .addresses)) p (worked r p .part)
 
 -- "A part is well-formed exactly when ..": it stays so when a request is worked on it
-abbrev pub StaysWellFormed : Type 0
-StaysWellFormed =
+abbrev pub RequestKeepsWellFormed : Type 0
+RequestKeepsWellFormed =
     (axis : ℕ) (r : Request) (p : List ℕ) → RequestFits r → wellFormed axis p ≡ true → wellFormed axis (worked r p .part) ≡ true
 
 -- and when any block is sent to its axis, answered or refused
-abbrev pub OutcomeWellFormed : Type 0
-OutcomeWellFormed = (axis : ℕ) (s p : List ℕ) → wellFormed axis p ≡ true → wellFormed axis (outcomeOf axis s p .part) ≡ true
+abbrev pub BlockKeepsWellFormed : Type 0
+BlockKeepsWellFormed = (axis : ℕ) (s p : List ℕ) → wellFormed axis p ≡ true → wellFormed axis (outcomeOf axis s p .part) ≡ true

@@ -18,12 +18,12 @@ elementsFrom r i zero p = []
 elementsFrom r i (suc n) p = elementOf r i p ∷ elementsFrom r (i + 1) n p
 
 -- the bytes of a block
-abbrev pub sizeOfBlock : Block → ℕ
-sizeOfBlock b = 2 + valuesSize (b .format) (length (b .values))
+abbrev pub blockSize : Block → ℕ
+blockSize b = 2 + valuesSize (b .format) (length (b .values))
 
 -- "A read value block is written, with its size code, only if it leaves 4 bytes of the 240 for each address after it; else 0x15."
 abbrev pub fitted : ℕ → ℕ → Block → Block
-fitted used after b = cond (leb (used + sizeOfBlock b + 4 * after) blockLimit) b (errorBlock 0x15)
+fitted used after b = cond (leb (used + blockSize b + 4 * after) blockLimit) b (errorBlock 0x15)
 
 abbrev pub answerTo : List ℕ → ℕ → ℕ → Address → Checked → Block
 answerTo p used after a (Error e) = errorBlock e
@@ -39,4 +39,4 @@ abbrev pub readBlocks : List ℕ → ℕ → List Address → List Block
 readBlocks p used [] = []
 readBlocks p used (a ∷ as′) =
     let b = readBlock p used (length as′) a in
-    b ∷ readBlocks p (used + sizeOfBlock b) as′
+    b ∷ readBlocks p (used + blockSize b) as′

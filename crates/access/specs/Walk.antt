@@ -6,7 +6,7 @@ use Prim.Native.Nat.{ℕ, _+_, _≤_}
 use lib.ListN.{length, drop}
 use Rattle.codes.specs.Code.{readTimes, writeAll}
 use Rattle.codes.specs.Number.{valueOr, put}
-use Rattle.drive.specs.Faults.{buffer}
+use Rattle.drive.specs.Faults.{bufferCodes}
 use Rattle.blocks.specs.Block.{Block, block}
 use Rattle.blocks.specs.Page.{blockBytes}
 use Rattle.blocks.specs.Request.{Request, request}
@@ -44,14 +44,14 @@ answerIn d = cond (d .failed) (errorBlock (d .error)) emptyBlock
 
 -- an address came to c: d says so, and m is the part then
 pub record Did (c : Changed) (m : List ℕ) (d : Done) : Type 0 where
-  pub answer : answerIn d ≡ c .answer
+  pub block : answerIn d ≡ c .block
   pub part : m ≡ c .part
   pub stored : d .stored ≡ c .stored
-  pub few : d .stored ≤ buffer
+  pub few : d .stored ≤ bufferCodes
 
 -- all addresses came to c: their answers are put after the header in l, which is then k
 pub record DidAll (c : ChangedAll) (m l k : List ℕ) (d : Changes) : Type 0 where
-  pub wrote : WroteAll l k 4 (c .answers) (record { next = d .next; error = d .error })
+  pub wrote : WroteAll l k 4 (c .blocks) (record { next = d .next; error = d .error })
   pub part : m ≡ c .part
   pub stored : d .stored ≡ c .stored
 
@@ -60,5 +60,5 @@ abbrev pub requestIn : List ℕ → Request
 requestIn s = valueOr (record { reference = 0; identifier = 0; axis = 0; addresses = []; blocks = [] }) (request .read s)
 
 -- the part with the response waiting
-abbrev pub leaves : Worked → List ℕ
-leaves w = withResponse (response .write (w .response)) (w .part)
+abbrev pub respondedPart : Worked → List ℕ
+respondedPart w = withResponse (response .write (w .response)) (w .part)

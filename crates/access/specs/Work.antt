@@ -24,24 +24,24 @@ answerOf r id bs =
     record { reference = r .reference; identifier = id; axis = r .axis; count = length (r .addresses); blocks = bs }
 
 -- "01 has value blocks only; 81 has value and error blocks, at least one error"
-abbrev pub read : Request → List ℕ → Worked
-read r p =
+abbrev pub workedRead : Request → List ℕ → Worked
+workedRead r p =
     let bs = readBlocks p 4 (r .addresses) in
     record { response = answerOf r (cond (hasError bs) 0x81 0x01) bs; part = p; stored = 0 }
 
 -- "02 ends there"; "82 has 40 00 and error blocks, at least one error"
-abbrev pub change : Request → List ℕ → Worked
-change r p =
+abbrev pub workedChange : Request → List ℕ → Worked
+workedChange r p =
     let c = changeAll (r .addresses) (r .blocks) p in
     record {
-      response = cond (hasError (c .answers)) (answerOf r 0x82 (c .answers)) (answerOf r 0x02 []);
+      response = cond (hasError (c .blocks)) (answerOf r 0x82 (c .blocks)) (answerOf r 0x02 []);
       part = c .part;
       stored = c .stored;
     }
 
 -- "01 request or 02 change"
 unfoldable pub worked : Request → List ℕ → Worked
-worked r p = cond (eqb (r .identifier) 1) (read r p) (change r p)
+worked r p = cond (eqb (r .identifier) 1) (workedRead r p) (workedChange r p)
 
 -- What a block sent to an axis comes to: the refusal number, or 0; how many elements were stored; and the axis's part.
 pub record Outcome : Type 0 where

@@ -5,15 +5,15 @@ ghost use Prim.Native.Nat.{_+_, _*_, _≤_};
 ghost use lib.Dec.{eqb};
 ghost use lib.ListN.{length};
 ghost use Rattle.codes.specs.Code.{readable};
-ghost use Rattle.drive.specs.Faults.{buffer};
+ghost use Rattle.drive.specs.Faults.{bufferCodes};
 ghost use Rattle.blocks.specs.Block.{blockLimit};
 ghost use Rattle.blocks.specs.Request.{request};
 ghost use Rattle.blocks.specs.Place.{headerOf, blockAt, walk};
 ghost use Rattle.blocks.specs.declared.BlockAt.the-variants.{Stands};
 ghost use Rattle.catalogue.specs.Element.{sizeCode, typeCode};
 ghost use Rattle.access.specs.Change.{storeFrom, ofElements, changeOne, changeAll};
-ghost use Rattle.access.specs.Work.{change};
-ghost use Rattle.access.specs.Walk.{blockIn, blocksIn, answerIn, Did, DidAll, Wrote, requestIn, leaves};
+ghost use Rattle.access.specs.Work.{workedChange};
+ghost use Rattle.access.specs.Walk.{blockIn, blocksIn, answerIn, Did, DidAll, Wrote, requestIn, respondedPart};
 use super::Checked;
 use super::reply;
 use super::reply::Written;
@@ -39,7 +39,7 @@ pub struct Changes {
     pub stored: u16,
 }
 
-fn refuse(error: u16) -> Done
+fn fail(error: u16) -> Done
     ensures { λ d. ⌜ d ≡ record { failed = true; error = error; stored = 0 } ⌝ }
 {
     Done {
@@ -59,7 +59,7 @@ fn is_format(k: Kind, f: u8) -> bool
 
 // Stores the n values of the block at `at` from element i on, up to the first that is outside its limits.
 fn store(part: &mut [u8], r: Row, i: u16, n: u16, block: &[u8], at: usize) -> Done
-    requires { ⌜ (i + n ≤ buffer) × (length (blockIn (now block) at .values) ≡ n) ⌝ }
+    requires { ⌜ (i + n ≤ bufferCodes) × (length (blockIn (now block) at .values) ≡ n) ⌝ }
     ensures { λ d. ⌜ Did (storeFrom r i (blockIn (now (block .entry)) at .values) (now (part .entry))) (now (part .exit)) d ⌝ }
 {
     let mut j: u16 = 0;
@@ -92,18 +92,18 @@ fn change_elements(
     at: usize,
     h: Head,
 ) -> Done
-    requires { ⌜ (a .subindex + n ≤ buffer) × (blockAt 2 (now block) at ≡ Stands h) ⌝ }
+    requires { ⌜ (a .subindex + n ≤ bufferCodes) × (blockAt 2 (now block) at ≡ Stands h) ⌝ }
     ensures { λ d. ⌜ Did (ofElements a (blockIn (now (block .entry)) at) (now (part .entry)) r n) (now (part .exit)) d ⌝ }
 {
     if !r.writable {
-        return refuse(0x01);
+        return fail(0x01);
     }
     let k = r.kind;
     if !is_format(k, h.format) {
-        return refuse(0x05);
+        return fail(0x05);
     }
     if (h.count as u16) != n {
-        return refuse(0x18);
+        return fail(0x18);
     }
     store(part, r, a.subindex, n, block, at)
 }
@@ -115,7 +115,7 @@ fn change_one(part: &mut [u8], a: Address, block: &[u8], at: usize, h: Head) -> 
 {
     let c = super::address::check(a);
     match c {
-        Checked::Error(e) => refuse(e),
+        Checked::Error(e) => fail(e),
         Checked::Elements(r, n) => change_elements(part, a, r, n, block, at, h),
     }
 }
@@ -174,7 +174,7 @@ pub(crate) fn change_all(part: &mut [u8], block: &[u8], n: usize, out: &mut [u8]
 // The answer to a readable change, whose header is `h`: 02 alone, or 82 and its blocks where an address failed.
 pub(crate) fn answer(part: &mut [u8], block: &[u8], h: Header) -> u16
     requires { ⌜ (readable blockLimit request (now block) ≡ true) × (h ≡ headerOf (now block)) × (h .identifier ≡ 1 → ⊥) ⌝ }
-    ensures { λ r. ⌜ (r ≡ change (requestIn (now (block .entry))) (now (part .entry)) .stored) × (now (part .exit) ≡ leaves (change (requestIn (now (block .entry))) (now (part .entry)))) ⌝ }
+    ensures { λ r. ⌜ (r ≡ workedChange (requestIn (now (block .entry))) (now (part .entry)) .stored) × (now (part .exit) ≡ respondedPart (workedChange (requestIn (now (block .entry))) (now (part .entry)))) ⌝ }
 {
     let mut body = [0u8; blocks::BLOCK_LIMIT];
     let d = change_all(part, block, codes::wide(h.count), &mut body);

@@ -4,14 +4,14 @@ ghost use mathlib.Core.Bool.{true};
 ghost use Prim.Native.Nat.{_+_, _*_, _≤_};
 ghost use lib.ListN.{length, take};
 ghost use Rattle.codes.specs.Code.{readable};
-ghost use Rattle.drive.specs.Faults.{buffer};
+ghost use Rattle.drive.specs.Faults.{bufferCodes};
 ghost use Rattle.blocks.specs.Block.{blockLimit};
 ghost use Rattle.blocks.specs.Request.{request};
 ghost use Rattle.blocks.specs.Place.{headerOf, walk};
 ghost use Rattle.catalogue.specs.Element.{sizeCode};
 ghost use Rattle.access.specs.Read.{elementsFrom, fitted, readBlock, readBlocks};
-ghost use Rattle.access.specs.Work.{read};
-ghost use Rattle.access.specs.Walk.{Wrote, WroteAll, requestIn, leaves};
+ghost use Rattle.access.specs.Work.{workedRead};
+ghost use Rattle.access.specs.Walk.{Wrote, WroteAll, requestIn, respondedPart};
 use super::Checked;
 use super::reply;
 use super::reply::Written;
@@ -25,8 +25,8 @@ const MOST: usize = drive::faults::BUFFER;
 
 // Puts n elements of a row, from element i on, at the start of `values`.
 fn gather(part: &[u8], r: Row, i: u16, n: u16, values: &mut [u32; MOST])
-    requires { ⌜ (i + n ≤ buffer) × (length (now values) ≡ buffer) ⌝ }
-    ensures { λ q. ⌜ (length (now (values .exit)) ≡ buffer) × (take n (now (values .exit)) ≡ elementsFrom r i n (now (part .entry))) ⌝ }
+    requires { ⌜ (i + n ≤ bufferCodes) × (length (now values) ≡ bufferCodes) ⌝ }
+    ensures { λ q. ⌜ (length (now (values .exit)) ≡ bufferCodes) × (take n (now (values .exit)) ≡ elementsFrom r i n (now (part .entry))) ⌝ }
 {
     let mut j: u16 = 0;
     while j < n {
@@ -45,7 +45,7 @@ fn put_elements(
     at: usize,
     after: usize,
 ) -> Written
-    requires { ⌜ (i + n ≤ buffer) × (at ≤ blockLimit) × (after ≤ blockLimit) ⌝ }
+    requires { ⌜ (i + n ≤ bufferCodes) × (at ≤ blockLimit) × (after ≤ blockLimit) ⌝ }
     ensures { λ w. ⌜ Wrote (now (out .entry)) (now (out .exit)) at (fitted at after (record { format = sizeCode (r .kind); values = elementsFrom r i n (now (part .entry)) })) w ⌝ }
 {
     let k = r.kind;
@@ -101,7 +101,7 @@ pub(crate) fn read_all(part: &[u8], block: &[u8], n: usize, out: &mut [u8]) -> W
 // The answer to a readable request, whose header is `h`: 81 where an error was met.
 pub(crate) fn answer(part: &mut [u8], block: &[u8], h: Header)
     requires { ⌜ (readable blockLimit request (now block) ≡ true) × (h ≡ headerOf (now block)) ⌝ }
-    ensures { λ q. ⌜ now (part .exit) ≡ leaves (read (requestIn (now (block .entry))) (now (part .entry))) ⌝ }
+    ensures { λ q. ⌜ now (part .exit) ≡ respondedPart (workedRead (requestIn (now (block .entry))) (now (part .entry))) ⌝ }
 {
     let mut body = [0u8; blocks::BLOCK_LIMIT];
     let w = read_all(part, block, codes::wide(h.count), &mut body);

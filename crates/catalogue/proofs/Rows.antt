@@ -16,8 +16,8 @@ use Rattle.codes.proofs.Number.{number-before, number-after}
 use Rattle.codes.proofs.Put.{word-length, put-drop}
 use Rattle.catalogue.specs.declared.Row.{Row}
 use Rattle.catalogue.specs.declared.Found.the-variants.{At}
-use Rattle.catalogue.specs.Table.{sizeOf, bytesOf, rows, bytesIn, parameterBytes, findIn, findOf}
-use Rattle.catalogue.specs.Element.{placeOf, elementOf, putElement}
+use Rattle.catalogue.specs.Table.{elementSize, bytesOf, rows, bytesIn, parameterBytes, findIn, findOf}
+use Rattle.catalogue.specs.Element.{elementPlace, elementOf, putElement}
 
 -- a parameter that is found is a row of the table
 found-in : (rs : List Row) (pnu : ℕ) (r : Row) → findIn rs pnu ≡ At r → List·Memᴰ r rs
@@ -99,36 +99,36 @@ apart at (x ∷ rs) e q r m n = go (List·Memᴰ·cases-cons m) (List·Memᴰ·c
     go (inr k) (inr l) below = below k l
 
 -- an element stands inside its row
-element-in-row : (q : Row) (j : ℕ) → j < q .count → j * sizeOf (q .kind) + sizeOf (q .kind) ≤ bytesOf q
-element-in-row q j h = omega (arith, suc-mul j (sizeOf (q .kind)), mul-le-mul-right {m = suc j} {n = q .count} (sizeOf (q .kind)) h)
+element-in-row : (q : Row) (j : ℕ) → j < q .count → j * elementSize (q .kind) + elementSize (q .kind) ≤ bytesOf q
+element-in-row q j h = omega (arith, suc-mul j (elementSize (q .kind)), mul-le-mul-right {m = suc j} {n = q .count} (elementSize (q .kind)) h)
 
 -- and inside the parameter bytes
-pub element-inside : (q : Row) → List·Memᴰ q rows → (j : ℕ) → j < q .count → placeOf q j + sizeOf (q .kind) ≤ parameterBytes
+pub element-inside : (q : Row) → List·Memᴰ q rows → (j : ℕ) → j < q .count → elementPlace q j + elementSize (q .kind) ≤ parameterBytes
 unfolding parameterBytes
 element-inside q m j h = omega (arith, element-in-row q j h, stands 0 rows rows-tiled q m .1)
 
 -- two elements of one row
-same-row : (q : Row) (j i : ℕ) → (j ≡ i) ⊎ Apart (placeOf q j) (sizeOf (q .kind)) (placeOf q i) (sizeOf (q .kind))
+same-row : (q : Row) (j i : ℕ) → (j ≡ i) ⊎ Apart (elementPlace q j) (elementSize (q .kind)) (elementPlace q i) (elementSize (q .kind))
 same-row q j i = go (decLt j i) (decLt i j)
   where
-    before : (k l : ℕ) → k < l → placeOf q k + sizeOf (q .kind) ≤ placeOf q l
-    before k l h = omega (arith, suc-mul k (sizeOf (q .kind)), mul-le-mul-right {m = suc k} {n = l} (sizeOf (q .kind)) h)
+    before : (k l : ℕ) → k < l → elementPlace q k + elementSize (q .kind) ≤ elementPlace q l
+    before k l h = omega (arith, suc-mul k (elementSize (q .kind)), mul-le-mul-right {m = suc k} {n = l} (elementSize (q .kind)) h)
 
-    go : Dec (j < i) → Dec (i < j) → (j ≡ i) ⊎ Apart (placeOf q j) (sizeOf (q .kind)) (placeOf q i) (sizeOf (q .kind))
+    go : Dec (j < i) → Dec (i < j) → (j ≡ i) ⊎ Apart (elementPlace q j) (elementSize (q .kind)) (elementPlace q i) (elementSize (q .kind))
     go (yes h) d = inr (inl (before j i h))
     go (no n) (yes h) = inr (inr (before i j h))
     go (no n) (no k) = inl (omega arith)
 
 module _ (q r : Row) (q-in : List·Memᴰ q rows) (r-in : List·Memᴰ r rows) (j i : ℕ) (h : j < q .count) (k : i < r .count) where
   -- two elements of the table are the same one, or do not overlap
-  pub elements-apart : ((q ≡ r) × (j ≡ i)) ⊎ Apart (placeOf q j) (sizeOf (q .kind)) (placeOf r i) (sizeOf (r .kind))
+  pub elements-apart : ((q ≡ r) × (j ≡ i)) ⊎ Apart (elementPlace q j) (elementSize (q .kind)) (elementPlace r i) (elementSize (r .kind))
   elements-apart = go (apart 0 rows rows-tiled q r q-in r-in)
     where
-      one : q ≡ r → (j ≡ i) ⊎ Apart (placeOf q j) (sizeOf (q .kind)) (placeOf q i) (sizeOf (q .kind)) → ((q ≡ r) × (j ≡ i)) ⊎ Apart (placeOf q j) (sizeOf (q .kind)) (placeOf r i) (sizeOf (r .kind))
+      one : q ≡ r → (j ≡ i) ⊎ Apart (elementPlace q j) (elementSize (q .kind)) (elementPlace q i) (elementSize (q .kind)) → ((q ≡ r) × (j ≡ i)) ⊎ Apart (elementPlace q j) (elementSize (q .kind)) (elementPlace r i) (elementSize (r .kind))
       one s (inl e) = inl (s, e)
       one s (inr a) = inr (rw (← s) a)
 
-      go : (q ≡ r) ⊎ Apart (q .offset) (bytesOf q) (r .offset) (bytesOf r) → ((q ≡ r) × (j ≡ i)) ⊎ Apart (placeOf q j) (sizeOf (q .kind)) (placeOf r i) (sizeOf (r .kind))
+      go : (q ≡ r) ⊎ Apart (q .offset) (bytesOf q) (r .offset) (bytesOf r) → ((q ≡ r) × (j ≡ i)) ⊎ Apart (elementPlace q j) (elementSize (q .kind)) (elementPlace r i) (elementSize (r .kind))
       go (inl s) = one s (same-row q j i)
       go (inr (inl a)) = inr (inl (omega (arith, element-in-row q j h)))
       go (inr (inr a)) = inr (inr (omega (arith, element-in-row r i k)))
@@ -139,15 +139,15 @@ module _ (q r : Row) (q-in : List·Memᴰ q rows) (r-in : List·Memᴰ r rows) (
   element-elsewhere x p = go elements-apart
     where
       bs : List ℕ
-      bs = word (sizeOf (r .kind)) .write x
+      bs = word (elementSize (r .kind)) .write x
 
-      go : ((q ≡ r) × (j ≡ i)) ⊎ Apart (placeOf q j) (sizeOf (q .kind)) (placeOf r i) (sizeOf (r .kind)) → ((q ≡ r) × (j ≡ i)) ⊎ (elementOf q j (putElement r i x p) ≡ elementOf q j p)
+      go : ((q ≡ r) × (j ≡ i)) ⊎ Apart (elementPlace q j) (elementSize (q .kind)) (elementPlace r i) (elementSize (r .kind)) → ((q ≡ r) × (j ≡ i)) ⊎ (elementOf q j (putElement r i x p) ≡ elementOf q j p)
       go (inl s) = inl s
-      go (inr (inl a)) = inr (number-before (sizeOf (q .kind)) p (placeOf r i) bs (placeOf q j) a)
-      go (inr (inr a)) = inr (number-after (sizeOf (q .kind)) p (placeOf r i) bs (placeOf q j) (omega (arith, word-length (sizeOf (r .kind)) x)))
+      go (inr (inl a)) = inr (number-before (elementSize (q .kind)) p (elementPlace r i) bs (elementPlace q j) a)
+      go (inr (inr a)) = inr (number-after (elementSize (q .kind)) p (elementPlace r i) bs (elementPlace q j) (omega (arith, word-length (elementSize (r .kind)) x)))
 
 -- and no byte after the parameters
 pub element-rest : (r : Row) → List·Memᴰ r rows → (i : ℕ) → i < r .count → (x : ℕ) (p : List ℕ) → drop parameterBytes (putElement r i x p) ≡ drop parameterBytes p
 unfolding putElement
 element-rest r m i h x p =
-    put-drop p (placeOf r i) (word (sizeOf (r .kind)) .write x) parameterBytes (omega (arith, element-inside r m i h, word-length (sizeOf (r .kind)) x))
+    put-drop p (elementPlace r i) (word (elementSize (r .kind)) .write x) parameterBytes (omega (arith, element-inside r m i h, word-length (elementSize (r .kind)) x))

@@ -10,7 +10,7 @@ use Rattle.codes.specs.Number.{numberAt, put, signedOf}
 use Rattle.catalogue.specs.declared.Kind.{Kind}
 use Rattle.catalogue.specs.declared.Kind.the-variants.{U8, U16, I16, I32}
 use Rattle.catalogue.specs.declared.Row.{Row}
-use Rattle.catalogue.specs.Table.{sizeOf}
+use Rattle.catalogue.specs.Table.{elementSize}
 
 -- the size code: 0x41, 0x42 and 0x43 for 1, 2 and 4 bytes
 abbrev pub sizeCode : Kind → ℕ
@@ -38,14 +38,14 @@ unfoldable pub inside : Row → ℕ → Bool
 inside r x = leZ (r .low) (valueOf (r .kind) x) && leZ (valueOf (r .kind) x) (r .high)
 
 -- where element i of a row stands, what stands there, and the part with other bytes there
-abbrev pub placeOf : Row → ℕ → ℕ
-placeOf r i = r .offset + i * sizeOf (r .kind)
+abbrev pub elementPlace : Row → ℕ → ℕ
+elementPlace r i = r .offset + i * elementSize (r .kind)
 
 unfoldable pub elementOf : Row → ℕ → List ℕ → ℕ
-elementOf r i p = numberAt (sizeOf (r .kind)) p (placeOf r i)
+elementOf r i p = numberAt (elementSize (r .kind)) p (elementPlace r i)
 
 unfoldable pub putElement : Row → ℕ → ℕ → List ℕ → List ℕ
-putElement r i x p = put p (placeOf r i) (word (sizeOf (r .kind)) .write x)
+putElement r i x p = put p (elementPlace r i) (word (elementSize (r .kind)) .write x)
 
 -- the fresh value of element i
 abbrev pub freshOf : Row → ℕ → ℕ

@@ -5,7 +5,7 @@ use Prim.Native.Nat.{ℕ, _+_, _*_}
 use lib.Dec.{eqb}
 use lib.IntN.{ℤ, pos, negsuc}
 use lib.ListN.{getD}
-use Rattle.drive.specs.Faults.{buffer}
+use Rattle.drive.specs.Faults.{bufferCodes}
 use Rattle.catalogue.specs.declared.Kind.{Kind}
 use Rattle.catalogue.specs.declared.Kind.the-variants.{U8, U16, I16, I32}
 use Rattle.catalogue.specs.declared.Row.{Row}
@@ -13,21 +13,21 @@ use Rattle.catalogue.specs.declared.Found.{Found}
 use Rattle.catalogue.specs.declared.Found.the-variants.{At, Nothing}
 
 -- bytes of an element, by its type
-abbrev pub sizeOf : Kind → ℕ
-sizeOf U8 = 1
-sizeOf U16 = 2
-sizeOf I16 = 2
-sizeOf I32 = 4
+abbrev pub elementSize : Kind → ℕ
+elementSize U8 = 1
+elementSize U16 = 2
+elementSize I16 = 2
+elementSize I32 = 4
 
 -- "Elements": a simple parameter has one, an array counts them from 0
-pub record Elements : Type 0 where
+pub record Extent : Type 0 where
   pub simple : Bool
   pub count : ℕ
 
-abbrev pub simple : Elements
+abbrev pub simple : Extent
 simple = record { simple = true; count = 1 }
 
-abbrev pub array : ℕ → Elements
+abbrev pub array : ℕ → Extent
 array n = record { simple = false; count = n }
 
 -- "Write" and "Limits are both included": a row that cannot be written has no limits
@@ -54,8 +54,8 @@ abbrev pub first-then : ℕ → ℕ → Fresh
 first-then v w = record { first = v; others = w }
 
 -- a row, which is told later where its elements stand
-abbrev pub row : ℕ → Kind → Elements → Write → Fresh → ℕ → Row
-row pnu kind elements write fresh offset =
+abbrev pub row : ℕ → Kind → Extent → Write → Fresh → ℕ → Row
+row pnu kind extent write fresh offset =
     record {
       low = write .low;
       high = write .high;
@@ -63,8 +63,8 @@ row pnu kind elements write fresh offset =
       others = fresh .others;
       pnu = pnu;
       kind = kind;
-      simple = elements .simple;
-      count = elements .count;
+      simple = extent .simple;
+      count = extent .count;
       writable = write .writable;
       offset = offset;
     }
@@ -74,7 +74,7 @@ abbrev pub table : List (ℕ → Row)
 table =
     row 930 U16 simple no (all 1)
     ∷ row 944 U16 simple no (all 0)
-    ∷ row 947 U16 (array buffer) no (all 0)
+    ∷ row 947 U16 (array bufferCodes) no (all 0)
     ∷ row 965 U8 (array 2) no (first-then 3 41)
     ∷ row 9900 U16 simple (from (pos 0) (pos 65535)) (all 0)
     ∷ row 9901 U16 (array 8) (from (pos 0) (pos 65535)) (all 0)
@@ -90,7 +90,7 @@ table =
     ∷ []
 
 abbrev pub bytesOf : Row → ℕ
-bytesOf r = r .count * sizeOf (r .kind)
+bytesOf r = r .count * elementSize (r .kind)
 
 -- the elements stand in the order of the table, each row after the one before it
 abbrev pub placed : ℕ → List (ℕ → Row) → List Row

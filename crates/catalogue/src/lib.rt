@@ -1,6 +1,6 @@
 // The catalogue of an axis's parameters, and their elements in the bytes of a part.
 ghost use mathlib.Core.Path.{_≡_};
-ghost use Rattle.catalogue.specs.Table.{sizeOf, rowAt, findOf};
+ghost use Rattle.catalogue.specs.Table.{elementSize, rowAt, findOf};
 ghost use Rattle.catalogue.specs.Element.{sizeCode, typeCode, valueOf, inside, elementOf, putElement, freshOf};
 
 // The type of a parameter's elements.
@@ -318,8 +318,8 @@ pub fn find(pnu: u16) -> Found
 }
 
 // Bytes of an element.
-pub fn size_of(k: Kind) -> usize
-    ensures { λ r. ⌜ r ≡ sizeOf k ⌝ }
+pub fn element_size(k: Kind) -> usize
+    ensures { λ r. ⌜ r ≡ elementSize k ⌝ }
 {
     match k {
         Kind::U8 => 1,
@@ -377,7 +377,7 @@ pub fn element(part: &[u8], r: Row, i: u16) -> u32
     ensures { λ x. ⌜ x ≡ elementOf r i (now (part .entry)) ⌝ }
 {
     let k = r.kind;
-    let size = size_of(k);
+    let size = element_size(k);
     codes::number_at(part, (r.offset as usize) + (i as usize) * size, size)
 }
 
@@ -386,7 +386,7 @@ pub fn put_element(part: &mut [u8], r: Row, i: u16, x: u32)
     ensures { λ q. ⌜ now (part .exit) ≡ putElement r i x (now (part .entry)) ⌝ }
 {
     let k = r.kind;
-    let size = size_of(k);
+    let size = element_size(k);
     codes::put_number(part, (r.offset as usize) + (i as usize) * size, size, x);
 }
 

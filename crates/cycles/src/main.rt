@@ -1,7 +1,7 @@
 // The worked cycles of document 01, and both sides of each limit of its control cycle: a line for each.
 ghost use Prim.Native.Nat.{_<_};
 ghost use Rattle.drive.specs.Faults.{situations};
-use drive::Answer;
+use drive::Output;
 use drive::Drive;
 use drive::Faults;
 use drive::Input;
@@ -37,7 +37,7 @@ fn print_state(s: State) {
 }
 
 // The state, ZSW1 and rpm, as a journal's line has them.
-fn print_answer(a: Answer) {
+fn print_output(a: Output) {
     let s = a.state;
     let speed = a.speed;
     print_state(s);
@@ -86,9 +86,9 @@ fn input(stw1: u16, nsoll: i16, nist: i16, fault: u16) -> Input {
 // A cycle of axis 1 as a journal's line.
 fn journal(d: Drive, i: Input) -> Drive {
     let r = drive::cycle_lent(d, i);
-    let a = r.answer;
+    let a = r.output;
     print(b"c 1 ");
-    print_answer(a);
+    print_output(a);
     print(b"\n");
     r.drive
 }
@@ -102,19 +102,19 @@ fn rpm(label: &[u8], e: i16) {
 
 fn answer(label: &[u8], d: Drive, i: Input) {
     let r = drive::cycle_lent(d, i);
-    let a = r.answer;
+    let a = r.output;
     print(label);
-    print_answer(a);
+    print_output(a);
     print(b"\n");
 }
 
 fn faults(label: &[u8], d: Drive, i: Input) -> Drive {
     let r = drive::cycle_lent(d, i);
-    let a = r.answer;
+    let a = r.output;
     let n = r.drive;
     let f = n.faults;
     print(label);
-    print_answer(a);
+    print_output(a);
     print_faults(f);
     print(b"\n");
     n

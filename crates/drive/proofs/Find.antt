@@ -1,4 +1,4 @@
--- How the search of a list goes on, in the terms of `findIn`. Assumes nothing.
+-- How the search of a list goes on, in the terms of `firstIn`. Assumes nothing.
 use Prim.Native.Nat.{ℕ, suc, _+_, _≤_, _<_}
 use native.Mathlib.Numerals.{add-one}
 use native.Mathlib.Omega.{arith}
@@ -7,20 +7,20 @@ use mathlib.Core.List.{List}
 use lib.ListN.{length, getD, drop, drop-of-length-le}
 use lib.Seq.{drop-cons}
 use borrow.Author.Tests.{eq-eqb, ne-eqb}
-use Rattle.drive.specs.Faults.{findIn}
+use Rattle.drive.specs.Faults.{firstIn}
 
-module _ (x : ℕ) (l : List ℕ) (i n : ℕ) (so-far : n ≡ i + findIn x (drop i l)) where
+module _ (x : ℕ) (l : List ℕ) (i n : ℕ) (so-far : n ≡ i + firstIn x (drop i l)) where
   pub find-hit : i < length l → getD l i 0 ≡ x → n ≡ i
   find-hit h e =
-      let d : findIn x (drop i l) ≡ 0 = rw (drop-cons l i 0 h, eq-eqb (getD l i 0) x e) in
+      let d : firstIn x (drop i l) ≡ 0 = rw (drop-cons l i 0 h, eq-eqb (getD l i 0) x e) in
       omega arith
 
-  pub find-more : i < length l → (getD l i 0 ≡ x → ⊥) → n ≡ i + 1 + findIn x (drop (i + 1) l)
+  pub find-more : i < length l → (getD l i 0 ≡ x → ⊥) → n ≡ i + 1 + firstIn x (drop (i + 1) l)
   find-more h ne =
-      let d : findIn x (drop i l) ≡ suc (findIn x (drop (suc i) l)) = rw (drop-cons l i 0 h, ne-eqb (getD l i 0) x ne) in
+      let d : firstIn x (drop i l) ≡ suc (firstIn x (drop (suc i) l)) = rw (drop-cons l i 0 h, ne-eqb (getD l i 0) x ne) in
       rw (add-one i) (omega arith)
 
   pub find-end : length l ≤ i → n ≡ i
   find-end h =
-      let d : findIn x (drop i l) ≡ 0 = rw (drop-of-length-le l h) in
+      let d : firstIn x (drop i l) ≡ 0 = rw (drop-of-length-le l h) in
       omega arith

@@ -15,7 +15,7 @@ use Rattle.drive.specs.declared.word.Word.{Word}
 use Rattle.drive.specs.declared.faults.Faults.{Faults}
 use Rattle.drive.specs.declared.Drive.{Drive}
 use Rattle.drive.specs.declared.Input.{Input}
-use Rattle.drive.specs.Faults.{situations, codes, buffer, acknowledgedOf, findIn, placeOf, holds, endOf, hasRoom, putOf, isIn, zeros, proper, allProper, properFaults}
+use Rattle.drive.specs.Faults.{situations, situationCodes, bufferCodes, acknowledgedOf, firstIn, codePlace, holds, endOf, hasRoom, putOf, isIn, zeros, proper, allProper, properFaults}
 use Rattle.drive.specs.Cycle.{acknowledges, afterAck, afterCode, cycleOf}
 use Rattle.drive.specs.Laws.{KeepsLength, KeepsProper}
 
@@ -43,12 +43,12 @@ module _ (P : Faults → Type 0)
 
 pub keeps-length : KeepsLength
 keeps-length =
-    after-cycle (λ (f : Faults). length (f .buffer) ≡ buffer)
-    (λ f long. omega (arith, length-take-le (buffer - codes) (f .buffer) (omega arith)))
+    after-cycle (λ (f : Faults). length (f .buffer) ≡ bufferCodes)
+    (λ f long. omega (arith, length-take-le (bufferCodes - situationCodes) (f .buffer) (omega arith)))
     (λ x f some lacks room long. length-set (f .buffer) (endOf f) x ∙ long)
 
 -- a search that finds nothing
-absent : (x : ℕ) (s : List ℕ) → length s ≤ findIn x s → isIn x s ≡ false
+absent : (x : ℕ) (s : List ℕ) → length s ≤ firstIn x s → isIn x s ≡ false
 absent x [] h = refl
 absent x (y ∷ ys) h =
     cases (eqb y x)
@@ -69,7 +69,7 @@ set-absent y x (suc k) (z ∷ zs) h e =
     rw (neither .0) (set-absent y x k zs (neither .1) e)
 
 -- a code that the situation lacks, put at its end
-put-proper : (x : ℕ) (s : List ℕ) → eqb x 0 ≡ false → isIn x s ≡ false → proper s ≡ true → proper (set s (findIn 0 s) x) ≡ true
+put-proper : (x : ℕ) (s : List ℕ) → eqb x 0 ≡ false → isIn x s ≡ false → proper s ≡ true → proper (set s (firstIn 0 s) x) ≡ true
 put-proper x [] nz h p = refl
 put-proper x (y ∷ ys) nz h p =
     let neither = or-eq-false-iff (eqb y x) (isIn x ys) .0 h in
@@ -78,7 +78,7 @@ put-proper x (y ∷ ys) nz h p =
     (λ e.
     let both = and-eq-true-iff (not (isIn y ys)) (proper ys) .0 (rw e at p) in
     let other : eqb x y ≡ false = ne-eqb x y (λ z. eqb-false y x (neither .0) (sym z)) in
-    let no : isIn y (set ys (findIn 0 ys) x) ≡ false = set-absent y x (findIn 0 ys) ys (not-true (isIn y ys) (both .0)) other in
+    let no : isIn y (set ys (firstIn 0 ys) x) ≡ false = set-absent y x (firstIn 0 ys) ys (not-true (isIn y ys) (both .0)) other in
     rw (e, e, no) (put-proper x ys nz (neither .1) (both .1)))
 
 drop-take : (k m : ℕ) (l : List ℕ) → drop k (take (k + m) l) ≡ take m (drop k l)
@@ -87,23 +87,23 @@ drop-take (suc k) m [] = ap (drop (suc k)) (take-nil (suc k + m)) ∙ sym (take-
 drop-take (suc k) m (x ∷ xs) = ap (λ (n : ℕ). drop (suc k) (take n (x ∷ xs))) (suc-add k m) ∙ drop-take k m xs
 
 -- the first n of n + 1 situations
-firsts : (n : ℕ) (b : List ℕ) → allProper (suc n) b ≡ true → allProper n (take (codes * n) b) ≡ true
+firsts : (n : ℕ) (b : List ℕ) → allProper (suc n) b ≡ true → allProper n (take (situationCodes * n) b) ≡ true
 firsts zero b p = refl
 firsts (suc n) b p =
-    let e : codes * suc n ≡ codes + codes * n = omega arith in
-    let both = and-eq-true-iff (proper (take codes b)) (allProper (suc n) (drop codes b)) .0 p in
-    rw (ap (λ (k : ℕ). take k b) e, take-take codes (codes + codes * n) b (omega arith), drop-take codes (codes * n) b)
-    (and-eq-true-iff (proper (take codes b)) (allProper n (take (codes * n) (drop codes b))) .1 (both .0, firsts n (drop codes b) (both .1)))
+    let e : situationCodes * suc n ≡ situationCodes + situationCodes * n = omega arith in
+    let both = and-eq-true-iff (proper (take situationCodes b)) (allProper (suc n) (drop situationCodes b)) .0 p in
+    rw (ap (λ (k : ℕ). take k b) e, take-take situationCodes (situationCodes + situationCodes * n) b (omega arith), drop-take situationCodes (situationCodes * n) b)
+    (and-eq-true-iff (proper (take situationCodes b)) (allProper n (take (situationCodes * n) (drop situationCodes b))) .1 (both .0, firsts n (drop situationCodes b) (both .1)))
 
 put-all-proper : (x : ℕ) (f : Faults) → eqb x 0 ≡ false → holds x f ≡ false → hasRoom f ≡ true → properFaults f ≡ true
     → properFaults (putOf f (endOf f) x) ≡ true
 put-all-proper x f some lacks room p =
-    let s = take codes (f .buffer) in
-    let at = ltb-true (endOf f) codes room in
-    let both = and-eq-true-iff (proper s) (allProper (situations - 1) (drop codes (f .buffer))) .0 p in
-    let new = absent x s (omega (arith, ltb-false (placeOf x (f .buffer)) codes lacks, length-take codes (f .buffer))) in
-    rw (take-set-lt codes (f .buffer) (endOf f) x at, drop-set-lt codes (f .buffer) (endOf f) x at)
-    (and-eq-true-iff (proper (set s (findIn 0 s) x)) (allProper (situations - 1) (drop codes (f .buffer))) .1 (put-proper x s some new (both .0), both .1))
+    let s = take situationCodes (f .buffer) in
+    let at = ltb-true (endOf f) situationCodes room in
+    let both = and-eq-true-iff (proper s) (allProper (situations - 1) (drop situationCodes (f .buffer))) .0 p in
+    let new = absent x s (omega (arith, ltb-false (codePlace x (f .buffer)) situationCodes lacks, length-take situationCodes (f .buffer))) in
+    rw (take-set-lt situationCodes (f .buffer) (endOf f) x at, drop-set-lt situationCodes (f .buffer) (endOf f) x at)
+    (and-eq-true-iff (proper (set s (firstIn 0 s) x)) (allProper (situations - 1) (drop situationCodes (f .buffer))) .1 (put-proper x s some new (both .0), both .1))
 
 pub keeps-proper : KeepsProper
 keeps-proper =

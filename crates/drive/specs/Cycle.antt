@@ -10,8 +10,8 @@ use Rattle.drive.specs.declared.speed.N2.{N2}
 use Rattle.drive.specs.declared.faults.Faults.{Faults}
 use Rattle.drive.specs.declared.Drive.{Drive}
 use Rattle.drive.specs.declared.Input.{Input}
-use Rattle.drive.specs.declared.Cycled.{Cycled}
-use Rattle.drive.specs.Speed.{still, sizeOf, distanceOf, scaleOf}
+use Rattle.drive.specs.declared.CycleEnd.{CycleEnd}
+use Rattle.drive.specs.Speed.{still, speedSize, distanceOf, scaleOf}
 use Rattle.drive.specs.Faults.{noFaults, isEmptyOf, acknowledgedOf, holds, hasRoom, endOf, putOf}
 
 -- bit k of a word
@@ -148,7 +148,7 @@ nearOf e nist window = leb (distanceOf e nist) window
 
 -- "Bit 10: size of NIST_A at least PNU 30003."
 unfoldable pub fastOf : N2 → ℕ → Bool
-fastOf nist threshold = leb threshold (sizeOf nist)
+fastOf nist threshold = leb threshold (speedSize nist)
 
 -- a value where a test holds, else 0
 abbrev pub flagOf : Bool → ℕ → ℕ
@@ -168,7 +168,7 @@ statusOf s faulted b warning near fast =
 
 -- The whole cycle. Step 7: "The word and setpoint used become the last accepted ones. Effective setpoint, status and actual
 -- speed are kept."
-unfoldable pub cycleOf : Drive → Input → Cycled
+unfoldable pub cycleOf : Drive → Input → CycleEnd
 cycleOf d i =
     -- 1
     let w = wordUsed (i .stw1) (d .word) in
@@ -188,7 +188,7 @@ cycleOf d i =
     -- 7
     record {
       drive = record { state = s; word = w; setpoint = setpoint; effective = e; status = z; actual = i .nist; faults = f };
-      answer = record { state = s; status = z; speed = scaleOf e (i .reference) };
+      output = record { state = s; status = z; speed = scaleOf e (i .reference) };
     }
 
 -- "Each axis starts in S1 with all fault situations empty"; the fresh figures of steps 1 and 5 and of PNU 944, 947 and 10100 to 10103

@@ -13,16 +13,16 @@ abbrev pub situations : ℕ
 situations = 4
 
 -- how many codes a situation holds
-abbrev pub codes : ℕ
-codes = 8
+abbrev pub situationCodes : ℕ
+situationCodes = 8
 
 -- how many codes the buffer holds
-abbrev pub buffer : ℕ
-buffer = situations * codes
+abbrev pub bufferCodes : ℕ
+bufferCodes = situations * situationCodes
 
 -- every situation empty, the counter 0
 abbrev pub noFaults : Faults
-noFaults = record { counter = 0; buffer = replicate buffer 0 }
+noFaults = record { counter = 0; buffer = replicate bufferCodes 0 }
 
 -- codes fill a situation from its start, so situation 0 is empty where its first code is 0
 abbrev pub isEmptyOf : Faults → Bool
@@ -34,32 +34,32 @@ bumpOf n = (n + 1) % 65536
 
 -- "situations move down by one, the oldest is lost, situation 0 is empty"
 abbrev pub shiftedOf : List ℕ → List ℕ
-shiftedOf b = replicate codes 0 ++ take (buffer - codes) b
+shiftedOf b = replicate situationCodes 0 ++ take (bufferCodes - situationCodes) b
 
 -- the same, "and the fault counter adds 1"
 abbrev pub acknowledgedOf : Faults → Faults
 acknowledgedOf f = record { counter = bumpOf (f .counter); buffer = shiftedOf (f .buffer) }
 
 -- where x first stands in a list; the list's length where it does not
-abbrev pub findIn : ℕ → List ℕ → ℕ
-findIn x [] = 0
-findIn x (y ∷ ys) = cond (eqb y x) 0 (suc (findIn x ys))
+abbrev pub firstIn : ℕ → List ℕ → ℕ
+firstIn x [] = 0
+firstIn x (y ∷ ys) = cond (eqb y x) 0 (suc (firstIn x ys))
 
 -- where x first stands in situation 0; `codes` where it does not
-abbrev pub placeOf : ℕ → List ℕ → ℕ
-placeOf x b = findIn x (take codes b)
+abbrev pub codePlace : ℕ → List ℕ → ℕ
+codePlace x b = firstIn x (take situationCodes b)
 
 -- situation 0 has the code
 abbrev pub holds : ℕ → Faults → Bool
-holds x f = ltb (placeOf x (f .buffer)) codes
+holds x f = ltb (codePlace x (f .buffer)) situationCodes
 
 -- the end of situation 0, which is where its first 0 stands
 abbrev pub endOf : Faults → ℕ
-endOf f = placeOf 0 (f .buffer)
+endOf f = codePlace 0 (f .buffer)
 
 -- situation 0 has room for one more
 abbrev pub hasRoom : Faults → Bool
-hasRoom f = ltb (endOf f) codes
+hasRoom f = ltb (endOf f) situationCodes
 
 -- a code "is put" at a place of situation 0, "and the counter adds 1"
 abbrev pub putOf : Faults → ℕ → ℕ → Faults
@@ -82,7 +82,7 @@ proper (y ∷ ys) = cond (eqb y 0) (zeros ys) (not (isIn y ys) && proper ys)
 -- the first n situations
 abbrev pub allProper : ℕ → List ℕ → Bool
 allProper zero b = true
-allProper (suc n) b = proper (take codes b) && allProper n (drop codes b)
+allProper (suc n) b = proper (take situationCodes b) && allProper n (drop situationCodes b)
 
 abbrev pub properFaults : Faults → Bool
 properFaults f = allProper situations (f .buffer)

@@ -7,12 +7,12 @@ use lib.ListN.{length}
 use Rattle.drive.specs.declared.states.State.the-variants.{S1, S3, S4, S51}
 use Rattle.drive.specs.declared.Drive.{Drive}
 use Rattle.drive.specs.declared.Input.{Input}
-use Rattle.drive.specs.Faults.{buffer, isEmptyOf, properFaults}
+use Rattle.drive.specs.Faults.{bufferCodes, isEmptyOf, properFaults}
 use Rattle.drive.specs.Cycle.{bit, wordUsed, cycleOf}
 
 -- the fault buffer keeps its length
 abbrev pub KeepsLength : Type 0
-KeepsLength = (d : Drive) (i : Input) → length (d .faults .buffer) ≡ buffer → length (cycleOf d i .drive .faults .buffer) ≡ buffer
+KeepsLength = (d : Drive) (i : Input) → length (d .faults .buffer) ≡ bufferCodes → length (cycleOf d i .drive .faults .buffer) ≡ bufferCodes
 
 -- a proper fault buffer stays proper
 abbrev pub KeepsProper : Type 0

@@ -15,8 +15,8 @@ abbrev pub still : N2
 still = record { 0 = pos 0 }
 
 -- the size of a normalised figure
-abbrev pub sizeOf : N2 → ℕ
-sizeOf a = natAbs (a .0)
+abbrev pub speedSize : N2 → ℕ
+speedSize a = natAbs (a .0)
 
 -- the distance of two normalised figures
 abbrev pub distanceOf : N2 → N2 → ℕ

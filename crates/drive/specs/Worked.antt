@@ -1,4 +1,4 @@
--- Document 01, "Journal program": the four cycles on axis 1 of a fresh station, all unnamed fields 0, and what each answers.
+-- Document 01, "Journal program": the four cycles on axis 1 of a fresh station, all unnamed fields 0, and what each outputsOf.
 use Prim.Native.Nat.{ℕ}
 use mathlib.Core.Path.{_≡_}
 use mathlib.Core.Bool.{false}
@@ -8,20 +8,20 @@ use Rattle.drive.specs.declared.states.State.{State}
 use Rattle.drive.specs.declared.states.State.the-variants.{S1, S2, S3, S4}
 use Rattle.drive.specs.declared.Drive.{Drive}
 use Rattle.drive.specs.declared.Input.{Input}
-use Rattle.drive.specs.declared.Answer.{Answer}
+use Rattle.drive.specs.declared.Output.{Output}
 use Rattle.drive.specs.Speed.{still}
 use Rattle.drive.specs.Cycle.{cycleOf, freshDrive}
 
 -- a cycle's word and setpoint, and the state, ZSW1 and rpm of its line
-pub record Worked : Type 0 where
+pub record WorkedCycle : Type 0 where
   pub stw1 : ℕ
   pub nsoll : ℕ
   pub state : State
   pub status : ℕ
   pub rpm : ℤ
 
-abbrev pub worked : List Worked
-worked =
+abbrev pub workedCycles : List WorkedCycle
+workedCycles =
     record { stw1 = 0x047E; nsoll = 0; state = S2; status = 0x0331; rpm = pos 0 }
     ∷ record { stw1 = 0x047F; nsoll = 0; state = S3; status = 0x0333; rpm = pos 0 }
     ∷ record { stw1 = 0x047F; nsoll = 0x2000; state = S4; status = 0x0237; rpm = pos 750 }
@@ -29,7 +29,7 @@ worked =
     ∷ []
 
 -- what the cycle is given, with PNU 10111, 30002 and 30003 fresh
-abbrev pub input : Worked → Input
+abbrev pub input : WorkedCycle → Input
 input x =
     record {
       standstill = false;
@@ -44,13 +44,13 @@ input x =
     }
 
 -- what its line says
-abbrev pub answered : Worked → Answer
-answered x = record { state = x .state; status = x .status; speed = record { 0 = x .rpm } }
+abbrev pub outputOf : WorkedCycle → Output
+outputOf x = record { state = x .state; status = x .status; speed = record { 0 = x .rpm } }
 
--- the answers of cycles one after the other
-abbrev pub answers : Drive → List Worked → List Answer
-answers d [] = []
-answers d (x ∷ xs) = cycleOf d (input x) .answer ∷ answers (cycleOf d (input x) .drive) xs
+-- the outputs of cycles one after the other
+abbrev pub outputsOf : Drive → List WorkedCycle → List Output
+outputsOf d [] = []
+outputsOf d (x ∷ xs) = cycleOf d (input x) .output ∷ outputsOf (cycleOf d (input x) .drive) xs
 
 abbrev pub FourCycles : Type 0
-FourCycles = answers freshDrive worked ≡ map answered worked
+FourCycles = outputsOf freshDrive workedCycles ≡ map outputOf workedCycles

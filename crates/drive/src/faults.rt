@@ -1,7 +1,7 @@
 // Steps 2 and 3: the fault buffer, situations of eight codes with the newest first, and the fault counter.
 ghost use mathlib.Core.Path.{_≡_};
 ghost use Prim.Native.Nat.{_<_};
-ghost use Rattle.drive.specs.Faults.{codes, noFaults, isEmptyOf, bumpOf, shiftedOf, acknowledgedOf, placeOf, putOf};
+ghost use Rattle.drive.specs.Faults.{situationCodes, noFaults, isEmptyOf, bumpOf, shiftedOf, acknowledgedOf, codePlace, putOf};
 ghost use Rattle.drive.specs.Cycle.{afterAck, afterCode};
 use super::word::Word;
 
@@ -67,7 +67,7 @@ fn acknowledged(f: Faults) -> Faults
 
 // Where a code first stands in situation 0; CODES where it does not.
 fn find(b: [u16; BUFFER], x: u16) -> usize
-    ensures { λ r. ⌜ r ≡ placeOf x b ⌝ }
+    ensures { λ r. ⌜ r ≡ codePlace x b ⌝ }
 {
     let mut i: usize = 0;
     while i < CODES {
@@ -80,7 +80,7 @@ fn find(b: [u16; BUFFER], x: u16) -> usize
 }
 
 fn put(f: Faults, at: usize, x: u16) -> Faults
-    requires { ⌜ at < codes ⌝ }
+    requires { ⌜ at < situationCodes ⌝ }
     ensures { λ r. ⌜ r ≡ putOf f at x ⌝ }
 {
     let mut b = f.buffer;

@@ -39,15 +39,15 @@ pub struct Input {
     pub threshold: u16, // PNU 30003
 }
 
-pub struct Answer {
+pub struct Output {
     pub state: State,
     pub status: u16,
     pub speed: Rpm,
 }
 
-pub struct Cycled {
+pub struct CycleEnd {
     pub drive: Drive,
-    pub answer: Answer,
+    pub output: Output,
 }
 
 // A fresh axis.
@@ -101,7 +101,7 @@ fn effective_setpoint(s: State, b: word::Word, last: N2, setpoint: N2) -> N2
 }
 
 // One control cycle of one axis, in the steps of document 01.
-pub fn cycle(d: Drive, i: Input) -> Cycled
+pub fn cycle(d: Drive, i: Input) -> CycleEnd
     ensures { λ r. ⌜ r ≡ cycleOf d i ⌝ }
 {
     let last_state = d.state;
@@ -131,34 +131,34 @@ pub fn cycle(d: Drive, i: Input) -> Cycled
         actual: nist,
         faults: f,
     };
-    let answer = Answer {
+    let output = Output {
         state: s,
         status: z,
         speed: speed,
     };
-    Cycled {
+    CycleEnd {
         drive: drive,
-        answer: answer,
+        output: output,
     }
 }
 
 // The drive record, changed in place: the by-value cycle, and a store.
-pub fn cycle_in_place(d: &mut Drive, i: Input) -> Answer
-    ensures { λ r. ⌜ (r ≡ cycleOf (now (d .entry)) i .answer) × (now (d .exit) ≡ cycleOf (now (d .entry)) i .drive) ⌝ }
+pub fn cycle_in_place(d: &mut Drive, i: Input) -> Output
+    ensures { λ r. ⌜ (r ≡ cycleOf (now (d .entry)) i .output) × (now (d .exit) ≡ cycleOf (now (d .entry)) i .drive) ⌝ }
 {
     let r = cycle(*d, i);
     *d = r.drive;
-    r.answer
+    r.output
 }
 
 // A record that is lent and taken back: its contract says nothing of a reference, so whoever calls it needs no walk by hand.
-pub fn cycle_lent(d: Drive, i: Input) -> Cycled
+pub fn cycle_lent(d: Drive, i: Input) -> CycleEnd
     ensures { λ r. ⌜ r ≡ cycleOf d i ⌝ }
 {
     let mut e = d;
     let a = cycle_in_place(&mut e, i);
-    Cycled {
+    CycleEnd {
         drive: e,
-        answer: a,
+        output: a,
     }
 }

@@ -2,7 +2,7 @@
 ghost use mathlib.Core.Path.{_≡_};
 ghost use lib.IntN.{pos, natAbs, _-ℤ_, _*ℤ_};
 ghost use lib.Signed.{quotZ};
-ghost use Rattle.drive.specs.Speed.{full, sizeOf, distanceOf, scaleOf};
+ghost use Rattle.drive.specs.Speed.{full, speedSize, distanceOf, scaleOf};
 
 // A normalised figure: FULL is 100 %.
 pub struct N2(pub i16);
@@ -52,7 +52,7 @@ fn cut(z: i32) -> i32
 }
 
 pub(crate) fn magnitude(a: N2) -> u32
-    ensures { λ r. ⌜ r ≡ sizeOf a ⌝ }
+    ensures { λ r. ⌜ r ≡ speedSize a ⌝ }
 {
     size(widen(a.0))
 }

@@ -16,7 +16,7 @@ use Rattle.drive.specs.declared.speed.N2.{N2}
 use Rattle.drive.specs.declared.faults.Faults.{Faults}
 use Rattle.drive.specs.declared.Drive.{Drive}
 use Rattle.drive.specs.declared.Input.{Input}
-use Rattle.drive.specs.Faults.{codes, buffer, acknowledgedOf, holds, endOf, hasRoom, putOf}
+use Rattle.drive.specs.Faults.{situationCodes, bufferCodes, acknowledgedOf, holds, endOf, hasRoom, putOf}
 use Rattle.drive.specs.Speed.{still}
 use Rattle.drive.specs.Cycle.{wordOf, wordUsed, setpointUsed, acknowledges, afterAck, afterCode, isS4, effectiveOf, stateBits, flagOf, statusOf, cycleOf}
 use Rattle.drive.proofs.Laws.{keeps-length}
@@ -51,8 +51,8 @@ loaded-fits p =
       status = number-small 2 p (offsetOf 10102);
       actual = speed-fits p (offsetOf 10103);
       counter = number-small 2 p (offsetOf 944);
-      codes = words-fit buffer p (offsetOf 947);
-      whole = words-length buffer p (offsetOf 947);
+      codes = words-fit bufferCodes p (offsetOf 947);
+      whole = words-length bufferCodes p (offsetOf 947);
     }
 
 -- either of two that both have a property
@@ -98,7 +98,7 @@ ack-fits : (w last x : ℕ) (f : Faults) → FaultsFit f → FaultsFit (afterAck
 unfolding afterAck
 ack-fits w last x f h =
     either FaultsFit (acknowledges (wordOf w) (wordOf last) x f) (acknowledgedOf f) f
-    (omega arith, zeros-fit codes (take (buffer - codes) (f .buffer)) (take-fits (buffer - codes) (f .buffer) (h .1))) h
+    (omega arith, zeros-fit situationCodes (take (bufferCodes - situationCodes) (f .buffer)) (take-fits (bufferCodes - situationCodes) (f .buffer) (h .1))) h
 
 code-fits : (x : ℕ) (f : Faults) → x < 65536 → FaultsFit f → FaultsFit (afterCode x f)
 unfolding afterCode

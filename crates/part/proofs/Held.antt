@@ -15,7 +15,7 @@ use Rattle.codes.proofs.Number.{number-put, number-before}
 use Rattle.blocks.specs.Block.{blockLimit}
 use Rattle.blocks.specs.Response.{response}
 use Rattle.blocks.specs.Place.{headerOf}
-use Rattle.drive.specs.Faults.{buffer, zeros}
+use Rattle.drive.specs.Faults.{bufferCodes, zeros}
 use Rattle.catalogue.specs.declared.Row.{Row}
 use Rattle.catalogue.specs.declared.Found.the-variants.{At}
 use Rattle.catalogue.specs.Table.{rows, findOf, offsetOf, parameterBytes}
@@ -60,7 +60,7 @@ module _ (bs p : List ℕ) where
   unfolding offsetOf findOf rows parameterBytes
   response-faults = λ j. record {
     counter = response-apart 2 (offsetOf 944) refl j;
-    buffer = words-same buffer p (withResponse bs p) (offsetOf 947) (λ i h. response-apart 2 (offsetOf 947 + i * 2) (le-leb (offsetOf 947 + i * 2 + 2) lengthAt (omega arith))) j;
+    buffer = words-same bufferCodes p (withResponse bs p) (offsetOf 947) (λ i h. response-apart 2 (offsetOf 947 + i * 2) (le-leb (offsetOf 947 + i * 2 + 2) lengthAt (omega arith))) j;
   }
 
   -- the drive record is as it was

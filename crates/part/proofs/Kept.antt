@@ -10,8 +10,8 @@ use borrow.Table.Steps.{cases}
 use Rattle.codes.specs.Number.{numberAt}
 use Rattle.catalogue.specs.declared.Row.{Row}
 use Rattle.catalogue.specs.declared.Found.the-variants.{At}
-use Rattle.catalogue.specs.Table.{rows, sizeOf, findIn, findOf}
-use Rattle.catalogue.specs.Element.{inside, placeOf, elementOf, freshOf}
+use Rattle.catalogue.specs.Table.{rows, elementSize, findIn, findOf}
+use Rattle.catalogue.specs.Element.{inside, elementPlace, elementOf, freshOf}
 use Rattle.part.specs.WellFormed.{everyElement, everyRow, limitsFit, fixedFit}
 
 -- a test that every element passes
@@ -54,7 +54,7 @@ same-rows ok also need h (r ∷ rs) e =
 
 -- every element of a row stands where `safe` says
 abbrev pub row-safe : (ℕ → ℕ → Bool) → Row → Bool
-row-safe safe r = everyElement (λ i. safe (sizeOf (r .kind)) (placeOf r i)) (r .count)
+row-safe safe r = everyElement (λ i. safe (elementSize (r .kind)) (elementPlace r i)) (r .count)
 
 -- a row that a well-formed part is tested for
 abbrev tested : Row → Bool
@@ -66,7 +66,7 @@ tested-safe safe r = not (tested r) || row-safe safe r
 module _ (safe : ℕ → ℕ → Bool) (p q : List ℕ) (same : (w k : ℕ) → safe w k ≡ true → numberAt w q k ≡ numberAt w p k) where
   pub element-same : (r : Row) (i : ℕ) → row-safe safe r ≡ true → i < r .count → elementOf r i q ≡ elementOf r i p
   unfolding elementOf
-  element-same r i e h = same (sizeOf (r .kind)) (placeOf r i) (every-at (λ (k : ℕ). safe (sizeOf (r .kind)) (placeOf r k)) (r .count) i e h)
+  element-same r i e h = same (elementSize (r .kind)) (elementPlace r i) (every-at (λ (k : ℕ). safe (elementSize (r .kind)) (elementPlace r k)) (r .count) i e h)
 
   -- a row that is tested is safe
   safe-tested : (r : Row) → tested-safe safe r ≡ true → tested r ≡ true → row-safe safe r ≡ true

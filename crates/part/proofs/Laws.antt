@@ -19,7 +19,7 @@ use Rattle.drive.specs.declared.states.State.{State}
 use Rattle.drive.specs.declared.states.State.the-variants.{S1, S2, S3, S4, S51, S52}
 use Rattle.drive.specs.declared.Drive.{Drive}
 use Rattle.drive.specs.declared.Input.{Input}
-use Rattle.drive.specs.Faults.{buffer, properFaults}
+use Rattle.drive.specs.Faults.{bufferCodes, properFaults}
 use Rattle.drive.specs.Cycle.{cycleOf}
 use Rattle.drive.proofs.Laws.{keeps-length, keeps-proper}
 use Rattle.part.specs.Layout.{stateAt, lengthAt, partSize, waitingLength, responseRoom, waiting, withResponse}
@@ -88,7 +88,7 @@ pub cycle-keeps-waiting : (p : List ℕ) (i : Input) → waiting (putDrive (cycl
 unfolding driveOf
 cycle-keeps-waiting p i =
     let d = cycleOf (driveOf p) i .drive in
-    let kept = drive-response d p (keeps-length (driveOf p) i (words-length buffer p (offsetOf 947))) in
+    let kept = drive-response d p (keeps-length (driveOf p) i (words-length bufferCodes p (offsetOf 947))) in
     rw (same-length p (putDrive d p) kept, same-bytes p (putDrive d p) kept)
 
 module _ (axis : ℕ) (p : List ℕ) (e : wellFormed axis p ≡ true) where

@@ -10,7 +10,7 @@ use lib.ListN.{length, getD, take, drop, drop-of-length-le}
 use lib.Seq.{drop-cons, drop-drop}
 use borrow.Author.Tests.{eq-eqb, ne-eqb, eqb-true}
 use borrow.Table.Steps.{cases}
-use Rattle.drive.specs.Faults.{situations, codes, buffer, isIn, zeros, proper, allProper}
+use Rattle.drive.specs.Faults.{situations, situationCodes, bufferCodes, isIn, zeros, proper, allProper}
 use Rattle.part.specs.Record.{wordsAt}
 use Rattle.part.proofs.Words.{words-within}
 
@@ -70,24 +70,24 @@ larger-next s i m l h e = rw (zeros-here s i h, e) (regroup (eqb m 0) (eqb (getD
 
 -- the situations from the k-th on
 abbrev pub from-situation : List ℕ → ℕ → Bool
-from-situation b k = allProper (situations - k) (drop (k * codes) b)
+from-situation b k = allProper (situations - k) (drop (k * situationCodes) b)
 
 module _ (b : List ℕ) (k : ℕ) (h : k < situations) where
-  one-more : from-situation b k ≡ (proper (take codes (drop (k * codes) b)) && from-situation b (k + 1))
+  one-more : from-situation b k ≡ (proper (take situationCodes (drop (k * situationCodes) b)) && from-situation b (k + 1))
   one-more =
       let e : situations - k ≡ suc (situations - (k + 1)) = omega arith in
-      let f : k * codes + codes ≡ (k + 1) * codes = omega arith in
-      ap (λ (n : ℕ). allProper n (drop (k * codes) b)) e
-      ∙ ap (λ (l : List ℕ). proper (take codes (drop (k * codes) b)) && allProper (situations - (k + 1)) l) (drop-drop codes (k * codes) b ∙ ap (λ (n : ℕ). drop n b) f)
+      let f : k * situationCodes + situationCodes ≡ (k + 1) * situationCodes = omega arith in
+      ap (λ (n : ℕ). allProper n (drop (k * situationCodes) b)) e
+      ∙ ap (λ (l : List ℕ). proper (take situationCodes (drop (k * situationCodes) b)) && allProper (situations - (k + 1)) l) (drop-drop situationCodes (k * situationCodes) b ∙ ap (λ (n : ℕ). drop n b) f)
 
-  pub situation-unfit : proper (take codes (drop (k * codes) b)) ≡ false → from-situation b k ≡ false
+  pub situation-unfit : proper (take situationCodes (drop (k * situationCodes) b)) ≡ false → from-situation b k ≡ false
   situation-unfit e = one-more ∙ rw e
 
-  pub situation-next : proper (take codes (drop (k * codes) b)) ≡ true → from-situation b k ≡ from-situation b (k + 1)
+  pub situation-next : proper (take situationCodes (drop (k * situationCodes) b)) ≡ true → from-situation b k ≡ from-situation b (k + 1)
   situation-next e = one-more ∙ rw e
 
 -- the k-th situation of a buffer that stands at a place
-pub situation-is : (p : List ℕ) (at k : ℕ) → k < situations → proper (take codes (drop (k * codes) (wordsAt buffer p at))) ≡ proper (wordsAt codes p (at + k * (codes * 2)))
+pub situation-is : (p : List ℕ) (at k : ℕ) → k < situations → proper (take situationCodes (drop (k * situationCodes) (wordsAt bufferCodes p at))) ≡ proper (wordsAt situationCodes p (at + k * (situationCodes * 2)))
 situation-is p at k h =
-    let e : at + k * codes * 2 ≡ at + k * (codes * 2) = omega arith in
-    ap proper (words-within codes (k * codes) buffer p at (omega arith) ∙ ap (wordsAt codes p) e)
+    let e : at + k * situationCodes * 2 ≡ at + k * (situationCodes * 2) = omega arith in
+    ap proper (words-within situationCodes (k * situationCodes) bufferCodes p at (omega arith) ∙ ap (wordsAt situationCodes p) e)

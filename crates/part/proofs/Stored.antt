@@ -15,7 +15,7 @@ use Rattle.drive.specs.declared.states.State.{State}
 use Rattle.drive.specs.declared.states.State.the-variants.{S1, S2, S3, S4, S51, S52}
 use Rattle.drive.specs.declared.Drive.{Drive}
 use Rattle.drive.specs.declared.speed.N2.{N2}
-use Rattle.drive.specs.Faults.{buffer}
+use Rattle.drive.specs.Faults.{bufferCodes}
 use Rattle.catalogue.specs.Table.{rows, findOf, offsetOf, parameterBytes}
 use Rattle.catalogue.specs.declared.Row.{Row}
 use Rattle.catalogue.specs.declared.Found.the-variants.{At}
@@ -37,7 +37,7 @@ pub record Fits (d : Drive) : Type 0 where
   pub actual : Within 2 (d .actual .0)
   pub counter : d .faults .counter < 65536
   pub codes : Words (d .faults .buffer)
-  pub whole : length (d .faults .buffer) ≡ buffer
+  pub whole : length (d .faults .buffer) ≡ bufferCodes
 
 abbrev word-write : ℕ → ℕ → Write
 word-write at x = record { at = at; size = 2; bytes = word 2 .write x; sized = word-length 2 x }
@@ -46,9 +46,9 @@ abbrev speed-write : ℕ → N2 → Write
 speed-write at v = word-write at (bitsOf 2 (v .0))
 
 -- the places of a drive record, as `putDrive` goes through them
-abbrev pub record-writes : (d : Drive) → length (d .faults .buffer) ≡ buffer → List Write
+abbrev pub record-writes : (d : Drive) → length (d .faults .buffer) ≡ bufferCodes → List Write
 record-writes d whole =
-    record { at = offsetOf 947; size = buffer * 2; bytes = writeAll (word 2 .write) (d .faults .buffer); sized = all-length (word 2 .write) 2 (word-length 2) (d .faults .buffer) ∙ ap (λ (n : ℕ). n * 2) whole }
+    record { at = offsetOf 947; size = bufferCodes * 2; bytes = writeAll (word 2 .write) (d .faults .buffer); sized = all-length (word 2 .write) 2 (word-length 2) (d .faults .buffer) ∙ ap (λ (n : ℕ). n * 2) whole }
     ∷ word-write (offsetOf 944) (d .faults .counter)
     ∷ speed-write (offsetOf 10103) (d .actual)
     ∷ word-write (offsetOf 10102) (d .status)
@@ -58,7 +58,7 @@ record-writes d whole =
     ∷ record { at = stateAt; size = 1; bytes = numberOf (d .state) ∷ []; sized = refl }
     ∷ []
 
-module _ (d : Drive) (p : List ℕ) (whole : length (d .faults .buffer) ≡ buffer) where
+module _ (d : Drive) (p : List ℕ) (whole : length (d .faults .buffer) ≡ bufferCodes) where
   pub drive-puts : putDrive d p ≡ puts (record-writes d whole) p
   unfolding putDrive
   drive-puts = refl
@@ -80,7 +80,7 @@ module _ (d : Drive) (p : List ℕ) (whole : length (d .faults .buffer) ≡ buff
 abbrev pub ofRecord : ℕ → Bool
 ofRecord pnu = eqb pnu 944 || eqb pnu 947 || eqb pnu 10100 || eqb pnu 10101 || eqb pnu 10102 || eqb pnu 10103
 
-module _ (d : Drive) (p : List ℕ) (whole : length (d .faults .buffer) ≡ buffer) where
+module _ (d : Drive) (p : List ℕ) (whole : length (d .faults .buffer) ≡ bufferCodes) where
   abbrev safe : ℕ → ℕ → Bool
   safe w k = apart w k (record-writes d whole)
 
@@ -164,7 +164,7 @@ module _ (d : Drive) (p : List ℕ) (long : length p ≡ partSize) (f : Fits d) 
   unfolding putDrive offsetOf findOf rows parameterBytes
   counter-stored = number-stored (take 1 writes) (drop 2 writes) p 2 (offsetOf 944) (d .faults .counter) refl (lit≤ tt) (omega (arith, long)) (f .counter)
 
-  codes-stored : wordsAt buffer (putDrive d p) (offsetOf 947) ≡ d .faults .buffer
+  codes-stored : wordsAt bufferCodes (putDrive d p) (offsetOf 947) ≡ d .faults .buffer
   unfolding putDrive offsetOf findOf rows parameterBytes
   codes-stored =
       ap (λ (n : ℕ). wordsAt n (putDrive d p) (offsetOf 947)) (sym (f .whole))

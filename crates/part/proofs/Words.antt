@@ -15,7 +15,7 @@ use Rattle.codes.proofs.Sound.{word-sound, valid-word}
 use Rattle.codes.proofs.Put.{word-length, put-fits}
 use Rattle.codes.proofs.Number.{number-is}
 use Rattle.codes.proofs.Items.{all-length}
-use Rattle.drive.specs.Faults.{buffer, zeros}
+use Rattle.drive.specs.Faults.{bufferCodes, zeros}
 use Rattle.part.specs.Record.{wordsAt}
 
 pub words-length : (n : ℕ) (p : List ℕ) (at : ℕ) → length (wordsAt n p at) ≡ n
@@ -103,13 +103,13 @@ zeros-are (y ∷ ys) h =
     rw (eqb-true y 0 (both .0)) (ap (λ (l : List ℕ). 0 ∷ l) (zeros-are ys (both .1)))
 
 -- where every byte of the buffer is 0, so is every code
-pub clear-words : (p : List ℕ) (at : ℕ) → at + buffer * 2 ≤ length p → zeros (take (buffer * 2) (drop at p)) ≡ true → wordsAt buffer p at ≡ replicate buffer 0
+pub clear-words : (p : List ℕ) (at : ℕ) → at + bufferCodes * 2 ≤ length p → zeros (take (bufferCodes * 2) (drop at p)) ≡ true → wordsAt bufferCodes p at ≡ replicate bufferCodes 0
 clear-words p at room h =
-    let bs = take (buffer * 2) (drop at p) in
-    let n : length bs ≡ buffer * 2 = length-take-le (buffer * 2) (drop at p) (omega (arith, length-drop at p)) in
-    let clear : bs ≡ replicate (buffer * 2) 0 = zeros-are bs h ∙ ap (λ (k : ℕ). replicate k 0) n in
-    words-read (replicate buffer 0) p at (drop (buffer * 2) (drop at p)) (small buffer)
-    (sym (take-append-drop (buffer * 2) (drop at p)) ∙ ap (λ (l : List ℕ). l ++ drop (buffer * 2) (drop at p)) clear)
+    let bs = take (bufferCodes * 2) (drop at p) in
+    let n : length bs ≡ bufferCodes * 2 = length-take-le (bufferCodes * 2) (drop at p) (omega (arith, length-drop at p)) in
+    let clear : bs ≡ replicate (bufferCodes * 2) 0 = zeros-are bs h ∙ ap (λ (k : ℕ). replicate k 0) n in
+    words-read (replicate bufferCodes 0) p at (drop (bufferCodes * 2) (drop at p)) (small bufferCodes)
+    (sym (take-append-drop (bufferCodes * 2) (drop at p)) ∙ ap (λ (l : List ℕ). l ++ drop (bufferCodes * 2) (drop at p)) clear)
   where
     small : (n : ℕ) → Words (replicate n 0)
     small zero = tt

@@ -3,7 +3,7 @@ ghost use mathlib.Core.Path.{_≡_};
 ghost use mathlib.Core.Bool.{_&&_};
 ghost use Prim.Native.Nat.{_+_, _*_, _≤_};
 ghost use lib.ListN.{length, drop};
-ghost use Rattle.drive.specs.Faults.{codes, isIn, zeros, proper, properFaults};
+ghost use Rattle.drive.specs.Faults.{situationCodes, isIn, zeros, proper, properFaults};
 ghost use Rattle.catalogue.specs.Table.{rows};
 ghost use Rattle.part.specs.Layout.{partSize};
 ghost use Rattle.part.specs.Record.{wordsAt, faultsOf};
@@ -152,8 +152,8 @@ fn situation_fits(s: &[u16]) -> bool
 
 // The codes of the situation whose bytes begin at `at`.
 fn codes_at(part: &[u8], at: usize) -> [u16; drive::faults::CODES]
-    requires { ⌜ at + codes * 2 ≤ length (now part) ⌝ }
-    ensures { λ r. ⌜ r ≡ wordsAt codes (now (part .entry)) at ⌝ }
+    requires { ⌜ at + situationCodes * 2 ≤ length (now part) ⌝ }
+    ensures { λ r. ⌜ r ≡ wordsAt situationCodes (now (part .entry)) at ⌝ }
 {
     let end = at + drive::faults::CODES * 2;
     let bytes = &part[at..end];

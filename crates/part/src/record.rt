@@ -2,7 +2,7 @@
 ghost use mathlib.Core.Path.{_≡_};
 ghost use Rattle.codes.specs.Code.{word, writeAll};
 ghost use Rattle.codes.specs.Number.{put};
-ghost use Rattle.drive.specs.Faults.{buffer};
+ghost use Rattle.drive.specs.Faults.{bufferCodes};
 ghost use Rattle.catalogue.specs.Table.{offsetOf};
 ghost use Rattle.part.specs.Record.{numberOf, stateOf, wordsAt, speedAt, driveOf, putWord, putSpeed, putFaults, putDrive};
 use drive::Drive;
@@ -54,7 +54,7 @@ fn speed_at(part: &[u8], at: usize) -> N2
 
 // The codes of every fault situation.
 fn codes_of(part: &[u8]) -> [u16; drive::faults::BUFFER]
-    ensures { λ r. ⌜ r ≡ wordsAt buffer (now (part .entry)) (offsetOf 947) ⌝ }
+    ensures { λ r. ⌜ r ≡ wordsAt bufferCodes (now (part .entry)) (offsetOf 947) ⌝ }
 {
     let mut b = [0u16; drive::faults::BUFFER];
     let mut i: usize = 0;

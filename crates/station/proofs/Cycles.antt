@@ -20,7 +20,7 @@ module _ (k : ℕ) (i : Sent) (p : List ℕ) where
 
   pub cycles :
       wellFormed k p ≡ true → i .flags ≤ 3
-      → (cycled (cycleOf (driveOf p) (inputOf i p) .answer) ≡ cycleAnswer k i p)
+      → (cycled (cycleOf (driveOf p) (inputOf i p) .output) ≡ cycleAnswer k i p)
       × (putDrive (cycleOf (driveOf p) (inputOf i p) .drive) p ≡ cyclePart k i p)
   unfolding cycleRefusal cycleAnswer cyclePart
   cycles w h = rw (w, le-ltb 3 (i .flags) h) (refl, refl)

@@ -12,7 +12,7 @@ use lib.Seq.{take-at, drop-append-add}
 use borrow.Author.Tests.{eq-eqb, eqb-true, eqb-false}
 use Rattle.codes.specs.Code.{AllOf}
 use Rattle.part.proofs.Laws.{fresh-length, fresh-well-formed, no-response-well-formed, cycle-well-formed}
-use Rattle.access.proofs.Keeps.{outcome-well-formed}
+use Rattle.access.proofs.Keeps.{block-keeps-well-formed}
 use Rattle.part.specs.Layout.{partSize}
 use Rattle.part.specs.Fresh.{freshPart}
 use Rattle.part.specs.WellFormed.{wellFormed}
@@ -22,7 +22,7 @@ use Rattle.station.specs.Cycle.{inputOf, cycleRefusal, cyclePart}
 use Rattle.station.specs.Runs.{runAnswers, runEnd}
 use Rattle.station.specs.Isolation.{answer, after, machine}
 use Rattle.station.specs.Calls.{Call, cycle, frame, kinds, owner, leaves}
-use Rattle.station.specs.Laws.{numberIn, FreshParts, WellFormedStation, CallFits, StaysWellFormed, NeverIllFormed}
+use Rattle.station.specs.Laws.{numberIn, FreshParts, WellFormedStation, CallFits, CallKeepsWellFormed, NeverIllFormed}
 use Rattle.station.proofs.Isolation.{Right, right, length-after, own, other}
 use Rattle.station.proofs.Sizes.{one-of, sized}
 use Rattle.station.proofs.Refusals.{Way, refused, done, way, number-by, partRefusal, Says, ill-formed, small, framed, worked, says}
@@ -65,10 +65,10 @@ part-stays (cycle axis i) p fits w =
     one-of (Well axis) (eqb (cycleRefusal axis i p) 0) _ _ (cycle-well-formed axis p (inputOf i p) w (record { stw1 = fits .stw1; nsoll = fits .nsoll; nist = fits .nist; fault = fits .fault })) w
 part-stays (frame farm f m) p fits w =
     one-of (Well farm) (eqb (refusalOf farm f (length m) p) 0) _ _
-    (one-of (Well farm) (isWrite f) _ _ (outcome-well-formed farm (blockOf f) p w) (no-response-well-formed farm p w))
+    (one-of (Well farm) (isWrite f) _ _ (block-keeps-well-formed farm (blockOf f) p w) (no-response-well-formed farm p w))
     w
 
-pub stays : StaysWellFormed
+pub stays : CallKeepsWellFormed
 stays c s fits w =
     record {
       size = length-after kinds sized c s ∙ w .size;

@@ -16,19 +16,19 @@ use Rattle.part.specs.WellFormed.{limitsFit, fixedFit, waitingFits, unusedFit, 
 use Rattle.access.specs.Address.{checked}
 use Rattle.access.specs.Read.{readBlock}
 use Rattle.access.specs.Change.{changeOne}
-use Rattle.access.specs.Work.{worked as work, outcomeOf}
+use Rattle.access.specs.Work.{worked, outcomeOf}
 use Rattle.station.specs.Parts.{farms, freshParts, window, withWindow, refusal}
 use Rattle.station.specs.Frame.{refusalOf, frameAnswer, frameReply, framePart}
 use Rattle.station.specs.Cycle.{cycleRefusal, cycleAnswer, cyclePart}
 use Rattle.station.specs.Runs.{runAnswers}
 use Rattle.station.specs.Isolation.{answer, after, machine}
 use Rattle.station.specs.Calls.{kinds}
-use Rattle.station.specs.Worked.{worked, WorkedByHand}
+use Rattle.station.specs.Worked.{workedCalls, WorkedByHand}
 use Rattle.station.proofs.Stays.{made}
 
-computed : runAnswers (machine kinds) (map (λ w. w .call) worked) (freshParts farms) ≡ map (λ w. w .answer) worked
-unfolding readable numberAt put formatSize sizeOf blockFits valuesOf valuesSize block address requestBlocks request responseBlocks hasError errorsFit response wordOf wordUsed setpointUsed afterAck afterCode stateAfter effectiveOf nearOf fastOf statusOf cycleOf rows parameterBytes findOf offsetOf inside elementOf putElement withResponse stateOf driveOf putDrive freshPart limitsFit fixedFit waitingFits unusedFit wellFormed checked readBlock changeOne work outcomeOf window withWindow refusal refusalOf frameAnswer frameReply framePart cycleRefusal cycleAnswer cyclePart runAnswers answer after
+computed : runAnswers (machine kinds) (map (λ w. w .call) workedCalls) (freshParts farms) ≡ map (λ w. w .answer) workedCalls
+unfolding readable numberAt put formatSize sizeOf blockFits valuesOf valuesSize block address requestBlocks request responseBlocks hasError errorsFit response wordOf wordUsed setpointUsed afterAck afterCode stateAfter effectiveOf nearOf fastOf statusOf cycleOf rows parameterBytes findOf offsetOf inside elementOf putElement withResponse stateOf driveOf putDrive freshPart limitsFit fixedFit waitingFits unusedFit wellFormed checked readBlock changeOne worked outcomeOf window withWindow refusal refusalOf frameAnswer frameReply framePart cycleRefusal cycleAnswer cyclePart runAnswers answer after
 computed = refl
 
 pub worked-by-hand : WorkedByHand
-worked-by-hand s h = ap (runAnswers (machine kinds) (map (λ w. w .call) worked)) (made s h) ∙ computed
+worked-by-hand s h = ap (runAnswers (machine kinds) (map (λ w. w .call) workedCalls)) (made s h) ∙ computed

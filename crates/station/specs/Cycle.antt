@@ -6,7 +6,7 @@ use lib.Dec.{eqb, ltb}
 use lib.IntN.{ℤ, pos}
 use Rattle.codes.specs.Number.{numberAt}
 use Rattle.drive.specs.declared.Input.{Input}
-use Rattle.drive.specs.declared.Answer.{Answer}
+use Rattle.drive.specs.declared.Output.{Output}
 use Rattle.drive.specs.Cycle.{bit, cycleOf}
 use Rattle.catalogue.specs.Table.{offsetOf}
 use Rattle.part.specs.Record.{numberOf, driveOf, putDrive}
@@ -47,13 +47,13 @@ cycleRefusal k i p =
 abbrev pub refusedCycle : ℕ → Cycled
 refusedCycle n = record { rpm = pos 0; status = 0; state = 0; number = n }
 
-abbrev pub cycled : Answer → Cycled
+abbrev pub cycled : Output → Cycled
 cycled a = record { rpm = a .speed .0; status = a .status; state = numberOf (a .state); number = 0 }
 
 unfoldable pub cycleAnswer : ℕ → Sent → List ℕ → Cycled
 cycleAnswer k i p =
     let n = cycleRefusal k i p in
-    cond (eqb n 0) (cycled (cycleOf (driveOf p) (inputOf i p) .answer)) (refusedCycle n)
+    cond (eqb n 0) (cycled (cycleOf (driveOf p) (inputOf i p) .output)) (refusedCycle n)
 
 unfoldable pub cyclePart : ℕ → Sent → List ℕ → List ℕ
 cyclePart k i p = cond (eqb (cycleRefusal k i p) 0) (putDrive (cycleOf (driveOf p) (inputOf i p) .drive) p) p

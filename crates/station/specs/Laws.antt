@@ -98,8 +98,8 @@ CallFits (cycle axis i) = SentFits i
 CallFits (frame farm f m) = Unit {0}
 
 -- every call keeps every part well-formed
-abbrev pub StaysWellFormed : Type 0
-StaysWellFormed = (c : Call) (s : List ℕ) → CallFits c → WellFormedStation s → WellFormedStation (after kinds c s)
+abbrev pub CallKeepsWellFormed : Type 0
+CallKeepsWellFormed = (c : Call) (s : List ℕ) → CallFits c → WellFormedStation s → WellFormedStation (after kinds c s)
 
 -- so, whatever is called on a fresh station, its parts are well-formed and no call is refused by number 2
 pub record FromFresh (cs : List Call) (s : List ℕ) : Type 0 where

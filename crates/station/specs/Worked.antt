@@ -9,21 +9,21 @@ use Rattle.station.specs.Runs.{runAnswers}
 use Rattle.station.specs.Isolation.{machine}
 use Rattle.station.specs.Calls.{Call, cycle, frame, Answer, toCycle, toFrame, kinds}
 
-pub record Worked : Type 0 where
+pub record WorkedCall : Type 0 where
   pub call : Call
   pub answer : Answer
 
 -- a cycle on axis 1, all unnamed fields 0, and its line: state, ZSW1, rpm
-abbrev pub cycleLine : ℕ → ℕ → ℕ → ℕ → ℕ → Worked
-cycleLine stw1 nsoll state status rpm =
+abbrev pub cycleExample : ℕ → ℕ → ℕ → ℕ → ℕ → WorkedCall
+cycleExample stw1 nsoll state status rpm =
     record {
       call = cycle 1 (record { flags = 0; stw1 = stw1; nsoll = pos nsoll; nist = pos 0; fault = 0 });
       answer = toCycle (record { rpm = pos rpm; status = status; state = state; number = 0 });
     }
 
 -- a frame with 244 bytes of reply memory, and its line: elements stored, and the reply, past which nothing changes; and its number
-abbrev pub frameLine : ℕ → List ℕ → ℕ → List ℕ → ℕ → Worked
-frameLine farm f stored reply number =
+abbrev pub frameExample : ℕ → List ℕ → ℕ → List ℕ → ℕ → WorkedCall
+frameExample farm f stored reply number =
     record {
       call = frame farm f (replicate 244 0);
       answer = toFrame (record { length = length reply; stored = stored; number = number }) (reply ++ replicate (244 - length reply) 0);
@@ -55,21 +55,21 @@ fourth =
     0x5E ∷ 0x00 ∷ 0x2F ∷ 206 ∷ 0x08 ∷ 0x81 ∷ 0x01 ∷ 0x04 ∷ empty947 ++ empty947 ++ empty947 ++ (0x44 ∷ 0x01 ∷ 0x00 ∷ 0x15 ∷ [])
 
 -- the four cycles (P1 to P4), the two frames of farm 1 (P5, P6), the denied frame (P7), and the four reads with their fetch (P8)
-abbrev pub worked : List Worked
-worked =
-    cycleLine 0x047E 0 2 0x0331 0
-    ∷ cycleLine 0x047F 0 3 0x0333 0
-    ∷ cycleLine 0x047F 0x2000 4 0x0237 750
-    ∷ cycleLine 0x047D 0 1 0x0360 0
-    ∷ frameLine 1 marks 1 (0x5F ∷ 0x00 ∷ 0x2F ∷ 0x10 ∷ []) 0
-    ∷ frameLine 1 fetch 0 (0x5E ∷ 0x00 ∷ 0x2F ∷ 0x08 ∷ 0x07 ∷ 0x82 ∷ 0x01 ∷ 0x01 ∷ 0x44 ∷ 0x01 ∷ 0x00 ∷ 0x02 ∷ []) 0
-    ∷ frameLine 2 marks 0 (0xDF ∷ 0x80 ∷ 0xB6 ∷ 0x00 ∷ []) 11
-    ∷ frameLine 1 reads 0 (0x5F ∷ 0x00 ∷ 0x2F ∷ 0x1C ∷ []) 0
-    ∷ frameLine 1 fetch 0 fourth 0
+abbrev pub workedCalls : List WorkedCall
+workedCalls =
+    cycleExample 0x047E 0 2 0x0331 0
+    ∷ cycleExample 0x047F 0 3 0x0333 0
+    ∷ cycleExample 0x047F 0x2000 4 0x0237 750
+    ∷ cycleExample 0x047D 0 1 0x0360 0
+    ∷ frameExample 1 marks 1 (0x5F ∷ 0x00 ∷ 0x2F ∷ 0x10 ∷ []) 0
+    ∷ frameExample 1 fetch 0 (0x5E ∷ 0x00 ∷ 0x2F ∷ 0x08 ∷ 0x07 ∷ 0x82 ∷ 0x01 ∷ 0x01 ∷ 0x44 ∷ 0x01 ∷ 0x00 ∷ 0x02 ∷ []) 0
+    ∷ frameExample 2 marks 0 (0xDF ∷ 0x80 ∷ 0xB6 ∷ 0x00 ∷ []) 11
+    ∷ frameExample 1 reads 0 (0x5F ∷ 0x00 ∷ 0x2F ∷ 0x1C ∷ []) 0
+    ∷ frameExample 1 fetch 0 fourth 0
     ∷ []
 
 -- whatever stood in the memory before
 abbrev pub WorkedByHand : Type 0
 WorkedByHand =
     (s : List ℕ) → length s ≡ stationSize
-    → runAnswers (machine kinds) (map (λ w. w .call) worked) (freshStation s) ≡ map (λ w. w .answer) worked
+    → runAnswers (machine kinds) (map (λ w. w .call) workedCalls) (freshStation s) ≡ map (λ w. w .answer) workedCalls

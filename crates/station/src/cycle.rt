@@ -2,9 +2,9 @@
 ghost use mathlib.Core.Path.{_≡_};
 ghost use Rattle.station.specs.Cycle.{inputOf, refusedCycle, cycled, cycleAnswer, cyclePart};
 use super::Cycled;
-use drive::Answer;
 use drive::Input;
 use drive::N2;
+use drive::Output;
 
 // A refused cycle answers its number and zeros.
 pub(crate) fn refused_cycle(n: u8) -> Cycled
@@ -35,7 +35,7 @@ fn input_of(part: &[u8], flags: u32, stw1: u16, nsoll: i16, nist: i16, fault: u1
     }
 }
 
-fn answered(a: Answer) -> Cycled
+fn answered(a: Output) -> Cycled
     ensures { λ r. ⌜ r ≡ cycled a ⌝ }
 {
     let s = a.state;
@@ -70,7 +70,7 @@ pub(crate) fn cycle_on(
     let i = input_of(part, flags, stw1, nsoll, nist, fault);
     let c = drive::cycle_lent(part::load(part), i);
     let d = c.drive;
-    let a = c.answer;
+    let a = c.output;
     part::store(part, d);
     answered(a)
 }

@@ -11,17 +11,17 @@ use borrow.Author.Needs.{needs}
 use Rattle.catalogue.proofs.put_element.Statement.{statement}
 use Rattle.catalogue.proofs.put_element.Tie as tie
 
-size-of-requires : tie.Need-size-of-requires
-size-of-requires c κs = search needs
+element-size-requires : tie.Need-element-size-requires
+element-size-requires c κs = search needs
 
 cast-put-number : tie.Need-cast-put-number
 cast-put-number c = search needs
 
 mul-put-number : tie.Need-mul-put-number
-mul-put-number c = omega (arith, index-small (c .before .before .before .before .args .i) (c .before .before .size-of .result) (c .before .before .before .before .args .r .kind) (omega arith) (c .before .before .size-of .ensures))
+mul-put-number c = omega (arith, index-small (c .before .before .before .before .args .i) (c .before .before .element-size .result) (c .before .before .before .before .args .r .kind) (omega arith) (c .before .before .element-size .ensures))
 
 add-put-number : tie.Need-add-put-number
-add-put-number c = omega (arith, index-small (c .before .before .before .before .args .i) (c .before .before .size-of .result) (c .before .before .before .before .args .r .kind) (omega arith) (c .before .before .size-of .ensures))
+add-put-number c = omega (arith, index-small (c .before .before .before .before .args .i) (c .before .before .element-size .result) (c .before .before .before .before .args .r .kind) (omega arith) (c .before .before .element-size .ensures))
 
 put-number-requires : tie.Need-put-number-requires
 put-number-requires c κs = search needs
@@ -34,13 +34,13 @@ unfolding putElement
 returns c =
     let a = c .before .before .before .before .before .before .before .args in
     c .before .before .put-number .ensures
-    ∙ ap (λ (z : ℕ). put (now (a .part)) (a .r .offset + a .i * z) (word z .write (a .x))) (c .before .before .before .before .before .size-of .ensures)
+    ∙ ap (λ (z : ℕ). put (now (a .part)) (a .r .offset + a .i * z) (word z .write (a .x))) (c .before .before .before .before .before .element-size .ensures)
 
 pub put-element-spec : {M : Type 1} → statement M
 put-element-spec =
     tie.close
     (tie.spec
-    size-of-requires
+    element-size-requires
     cast-put-number
     mul-put-number
     add-put-number

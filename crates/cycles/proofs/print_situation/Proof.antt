@@ -1,15 +1,15 @@
 -- `cycles::print_situation` meets its contract: j counts the codes that are printed. Assumes nothing.
 use Prim.Native.Nat.{_-_, _≤_}
 use borrow.Author.Needs.{needs}
-use Rattle.drive.specs.Faults.{codes}
+use Rattle.drive.specs.Faults.{situationCodes}
 use Rattle.cycles.proofs.print_situation.Statement.{statement}
 use Rattle.cycles.proofs.print_situation.Tie as tie
 
 abbrev Inv-loop : tie.InvT-loop
-Inv-loop n b j₀ t5 j = j ≤ codes
+Inv-loop n b j₀ t5 j = j ≤ situationCodes
 
 abbrev μ-loop : tie.MeasureT-loop
-μ-loop n b j₀ t5 j = codes - j
+μ-loop n b j₀ t5 j = situationCodes - j
 
 loop-holds : tie.Need-loop-holds Inv-loop μ-loop
 loop-holds c = search needs

@@ -41,16 +41,16 @@ use borrow.Table.OneValue.{part-in, part-out}
 use Rattle.drive.specs.Cycle.{cycleOf}
 use Rattle.drive.specs.declared.Drive.{Drive}
 use Rattle.drive.specs.declared.Input.{Input}
-use Rattle.drive.specs.declared.Cycled.{Cycled}
-use Rattle.drive.specs.declared.Answer.{Answer}
+use Rattle.drive.specs.declared.CycleEnd.{CycleEnd}
+use Rattle.drive.specs.declared.Output.{Output}
 use Rattle.drive.proofs.Drive as D
 use Rattle.drive.proofs.Drive.Laws as D′
 use Rattle.drive.proofs.Input as I
 use Rattle.drive.proofs.Input.Laws as I′
-use Rattle.drive.proofs.Cycled as Y
-use Rattle.drive.proofs.Cycled.Laws as Y′
-use Rattle.drive.proofs.Answer as N
-use Rattle.drive.proofs.Answer.Laws as N′
+use Rattle.drive.proofs.CycleEnd as Y
+use Rattle.drive.proofs.CycleEnd.Laws as Y′
+use Rattle.drive.proofs.Output as N
+use Rattle.drive.proofs.Output.Laws as N′
 use Rattle.drive.proofs.cycle_in_place as place
 use Rattle.drive.proofs.cycle_in_place.Symbol as place-def
 use Rattle.drive.proofs.cycle_in_place.Symbol.{name as #drive·cycle-in-place}
@@ -70,17 +70,17 @@ dval = LL.val D.the-type D′.the-laws
 abbrev ival : Input → Val
 ival = LL.val I.the-type I′.the-laws
 
-abbrev yval : Cycled → Val
+abbrev yval : CycleEnd → Val
 yval = LL.val Y.the-type Y′.the-laws
 
 -- what the call left, put together
-abbrev both : Drive → Answer → Cycled
-both d a = record { drive = d; answer = a }
+abbrev both : Drive → Output → CycleEnd
+both d a = record { drive = d; output = a }
 
 kept-drive : (d : Drive) (vs : List Val) → Is D.the-row d vs → Is D.the-row d (dval d ∷ [])
 kept-drive d vs g = LL.owes D.the-type D′.the-laws d (LL.owed D.the-type D′.the-laws d vs g)
 
-made : (d : Drive) (a : Answer) (vs us : List Val) → Is D.the-row d vs → Is N.the-row a us → Is Y.the-row (both d a) (yval (both d a) ∷ [])
+made : (d : Drive) (a : Output) (vs us : List Val) → Is D.the-row d vs → Is N.the-row a us → Is Y.the-row (both d a) (yval (both d a) ∷ [])
 made d a vs us g k = LL.owes Y.the-type Y′.the-laws (both d a) (kept-drive d vs g, (LL.owes N.the-type N′.the-laws a (LL.owed N.the-type N′.the-laws a us k), tt))
 
 -- the contract that the proof cites
@@ -94,7 +94,7 @@ module _ {M : Type 1} (𝓤 : URA M) (H : Heap 𝓤) (A : Atoms 𝓤) (W : Given
   abbrev Post : Val → SProp 𝓤
   Post = walkOf 𝓤 H A lent.ended stayed (lent.clauses 𝓤 H A at-mem run) .post ((tt, tt, tt, (h, (i, tt)), at), tt)
 
-  exits : (y : Cycled) → y ≡ cycleOf h i → Is Y.the-row y (yval y ∷ []) → ent 𝓤 (sem 𝓤 H A ftrue) (Post (yval y))
+  exits : (y : CycleEnd) → y ≡ cycleOf h i → Is Y.the-row y (yval y ∷ []) → ent 𝓤 (sem 𝓤 H A ftrue) (Post (yval y))
   exits y e gy =
       qed W (‵ ftrue ∷ []) ∵
       suffices ! _ (ends-at 𝓤 H A lent.ended stayed (lent.clauses 𝓤 H A at-mem run) W ((tt, tt, tt, (h, (i, tt)), at), tt) (yval y) y (tt, (tt, tt)) (tt, (tt, tt))) $ says ! e $
@@ -131,23 +131,23 @@ module _ {M : Type 1} (𝓤 : URA M) (H : Heap 𝓤) (A : Atoms 𝓤) (W : Given
         owned ! I.the-row (Is I.the-row) (LL.makes I.the-type I′.the-plain 𝓤 H A) i _ gi $ move ! (3 ∷ 1 ∷ 0 ∷ []) $ use3 W (raw (Place 𝓤 H A at-mem run .pre (to-place l₃ ν γ))) (goes-place l₃ ν γ) $
         -- [what the call asks; the lender's part; _6; …; _5; …; _4; …; what frees _3; _2; …; _1; …; _0; …]
         calls-at ! fm (Place 𝓤 H A at-mem run) known (to-place l₃ ν γ) (and-then ! (load ! (from ! (stop !)) (look ! 4 refl)) (and-then ! (load ! (from ! (stop !)) (look ! 9 refl)) (no-more !))) (λ v.
-        use1 W (later (some (λ (r : Answer). ((‵ (flft (ν ∷ []) fullShare) ⊛ ‵ ftrue) ⊛ ‵ (N.the-row .own r (v ∷ []))) ⊛ raw (ensured 𝓤 H A place.ended (place.clauses 𝓤 H A at-mem run) (ν ∷ [], tt) (x l₃ γ, (i, tt)) tt r)))) (id⊢ 𝓤 _) $ await ! tt $ pick ! (λ r.
-        split ! $ move ! (1 ∷ []) $ use1 W (some (λ (zs : Drive × (Unit {0} × Unit {0})). ‵ (lasts place.ended (ν ∷ [], tt) (x l₃ γ, (i, tt)) zs) ⊛ raw (fact 𝓤 ((r ≡ cycleOf h i .answer) × (zs .0 ≡ cycleOf h i .drive))))) (id⊢ 𝓤 _) $ pick ! (λ zs.
-        split ! $ move ! (1 ∷ []) $ heard ! ((r ≡ cycleOf h i .answer) × (zs .0 ≡ cycleOf h i .drive)) (λ e. fsplit ! $ move ! (2 ∷ []) $ split ! $ move ! (1 ∷ []) $
+        use1 W (later (some (λ (r : Output). ((‵ (flft (ν ∷ []) fullShare) ⊛ ‵ ftrue) ⊛ ‵ (N.the-row .own r (v ∷ []))) ⊛ raw (ensured 𝓤 H A place.ended (place.clauses 𝓤 H A at-mem run) (ν ∷ [], tt) (x l₃ γ, (i, tt)) tt r)))) (id⊢ 𝓤 _) $ await ! tt $ pick ! (λ r.
+        split ! $ move ! (1 ∷ []) $ use1 W (some (λ (zs : Drive × (Unit {0} × Unit {0})). ‵ (lasts place.ended (ν ∷ [], tt) (x l₃ γ, (i, tt)) zs) ⊛ raw (fact 𝓤 ((r ≡ cycleOf h i .output) × (zs .0 ≡ cycleOf h i .drive))))) (id⊢ 𝓤 _) $ pick ! (λ zs.
+        split ! $ move ! (1 ∷ []) $ heard ! ((r ≡ cycleOf h i .output) × (zs .0 ≡ cycleOf h i .drive)) (λ e. fsplit ! $ move ! (2 ∷ []) $ split ! $ move ! (1 ∷ []) $
         peeks ! N.the-row (Is N.the-row) (shows 𝓤 H A N.the-row) r (v ∷ []) (λ gr.
-        -- [what the answer owns; the token and true; the last value; true; the lender's part; _6; …; _5; …; _4; …; what frees _3; _2; …; _1; …; _0; …]
+        -- [what the output owns; the token and true; the last value; true; the lender's part; _6; …; _5; …; _4; …; what frees _3; _2; …; _1; …; _0; …]
         land ! (from ! (stop !)) (init ! 9 refl (LL.lawful N.the-type N′.the-laws 𝓤 H A W .typed r _ gr .0)) $ rewrite ! 9 (λ (u : Val). ‵ (fat fullShare N′.mir l₄ 0 u)) (ap only (LL.tells N.the-type N′.the-laws r _ gr)) refl $
         move ! (1 ∷ []) $ split ! $ lft-end ! tt $ move ! (0 ∷ 5 ∷ 3 ∷ []) $
         use3 W (later (‵ (partAt D.the-row fullShare (zs .0) l₃ 0))) (ref-back 𝓤 H A W D.the-row (ν ∷ []) γ (zs .0) l₃ 0) $ await ! tt $
         use1 W (some (λ (u : Val). ‵ (fat fullShare (lone (D.the-row .mir)) l₃ 0 u) ⊛ ‵ (D.the-row .own (zs .0) (u ∷ [])))) (part-out 𝓤 H A W D.the-row refl fullShare (zs .0) l₃ 0) $ pick ! (λ u. split ! $
         move ! (1 ∷ []) $ peeks ! D.the-row (Is D.the-row) (shows 𝓤 H A D.the-row) (zs .0) (u ∷ []) (λ gu. drop ! $ rewrite ! 0 (λ (w : Val). ‵ (fat fullShare D′.mir l₃ 0 w)) (ap only (LL.tells D.the-type D′.the-laws (zs .0) _ gu)) refl $
-        -- [_3; true; what the answer owns; true; _6; …; _5; …; _4; …; what frees _3; _2; …; _1; …; _0; …]
+        -- [_3; true; what the output owns; true; _6; …; _5; …; _4; …; what frees _3; _2; …; _1; …; _0; …]
         assigns ! (of-opd ! (load ! (from ! (stop !)) (look ! 0 refl))) (from ! (stop !)) (init ! 4 refl (LL.lawful D.the-type D′.the-laws 𝓤 H A W .typed (zs .0) _ (kept-drive (zs .0) _ gu) .0)) $
         assigns ! (agg ! (and-then ! (load ! (from ! (stop !)) (look ! 4 refl)) (and-then ! (load ! (from ! (stop !)) (look ! 8 refl)) (no-more !)))) (from ! (stop !))
         (init ! 15 refl (LL.lawful Y.the-type Y′.the-laws 𝓤 H A W .typed (both (zs .0) r) _ (made (zs .0) r _ _ gu gr) .0)) $
         returns ! (look ! 15 refl) $ forget ! 0 refl $ forget ! 4 refl $ forget ! 6 refl $ forget ! 8 refl $ forget ! 11 refl $ forget ! 13 refl $ forget ! 15 refl $
         move ! (15 ∷ 16 ∷ []) $ free1 ! $ move ! (13 ∷ 14 ∷ []) $ free1 ! $ move ! (11 ∷ 12 ∷ []) $ free1 ! $ move ! (0 ∷ 10 ∷ []) $ free1 ! $ move ! (7 ∷ 8 ∷ []) $ free1 ! $ move ! (5 ∷ 6 ∷ []) $ free1 ! $ move ! (3 ∷ 4 ∷ []) $ free1 ! $ free0 ! $
-        keep ! (0 ∷ []) $ by ! (exits (both (zs .0) r) (λ j. record { drive = e .1 j; answer = e .0 j }) (made (zs .0) r _ _ gu gr))))))))))))))))))
+        keep ! (0 ∷ []) $ by ! (exits (both (zs .0) r) (λ j. record { drive = e .1 j; output = e .0 j }) (made (zs .0) r _ _ gu gr))))))))))))))))))
 
 module _ {M : Type 1} (𝓤 : URA M) (H : Heap 𝓤) (A : Atoms 𝓤) (W : Given 𝓤 H A) (at-mem : Memory → SProp 𝓤) (run : Routine → Fun 𝓤) where
   lent-walks : (C : Calls 𝓤 H) (Λ : Loops 𝓤 H) → FmC 𝓤 H (W .laws) C → Triple 𝓤 (C #drive·cycle-in-place) (Place 𝓤 H A at-mem run)

@@ -28,7 +28,7 @@ loop-holds c = record {
   few = omega arith;
   size = refl;
   kept = refl;
-  answers = refl;
+  blocks = refl;
   leaves = refl;
   counts = omega arith;
 }

@@ -3,28 +3,28 @@ use mathlib.Core.Path.{sym, _∙_}
 use denote.Ref.{now}
 use borrow.Author.Tests.{not-true, not-false}
 use Rattle.access.specs.Walk.{blockIn}
-use Rattle.access.proofs.Refusing.{did-refused, head-format, head-count, is-locked, is-alien, is-miscounted, is-stored}
+use Rattle.access.proofs.Failing.{did-fail, head-format, head-count, is-locked, is-alien, is-miscounted, is-stored}
 use borrow.Author.Needs.{needs}
 use Rattle.access.proofs.change.change_elements.Statement.{statement}
 use Rattle.access.proofs.change.change_elements.Tie as tie
 
-refuse-requires : tie.Need-refuse-requires
-refuse-requires c κs = search needs
+fail-requires : tie.Need-fail-requires
+fail-requires c κs = search needs
 
 returns : tie.Need-returns
 returns c =
     let a = c .before .before .before .before .before .args in
     let s = now (a .block) in
     let st = c .before .before .before .before .before .pre .1 in
-    is-locked (a .a) (blockIn s (a .at)) (now (a .part)) (now (a .part)) (a .r) (a .n) (a .h .format) (a .h .count) (c .refuse .result) (head-format s (a .at) (a .h) st) (head-count s (a .at) (a .h) st)
+    is-locked (a .a) (blockIn s (a .at)) (now (a .part)) (now (a .part)) (a .r) (a .n) (a .h .format) (a .h .count) (c .fail .result) (head-format s (a .at) (a .h) st) (head-count s (a .at) (a .h) st)
     (not-true (a .r .writable) (c .before .if1 .taken))
-    (did-refused 0x01 (now (a .part)) (c .refuse .result) (c .refuse .ensures))
+    (did-fail 0x01 (now (a .part)) (c .fail .result) (c .fail .ensures))
 
 is-format-requires : tie.Need-is-format-requires
 is-format-requires c κs = search needs
 
-refuse-requires-2 : tie.Need-refuse-requires-2
-refuse-requires-2 c κs = search needs
+fail-requires-2 : tie.Need-fail-requires-2
+fail-requires-2 c κs = search needs
 
 returns-2 : tie.Need-returns-2
 returns-2 c =
@@ -32,16 +32,16 @@ returns-2 c =
     let s = now (a .block) in
     let st = c .before .before .before .before .before .before .before .pre .1 in
     let f = c .before .before .is-format in
-    is-alien (a .a) (blockIn s (a .at)) (now (a .part)) (now (a .part)) (a .r) (a .n) (a .h .format) (a .h .count) (c .refuse2 .result) (head-format s (a .at) (a .h) st) (head-count s (a .at) (a .h) st)
+    is-alien (a .a) (blockIn s (a .at)) (now (a .part)) (now (a .part)) (a .r) (a .n) (a .h .format) (a .h .count) (c .fail2 .result) (head-format s (a .at) (a .h) st) (head-count s (a .at) (a .h) st)
     (not-false (a .r .writable) (c .before .before .before .if1 .left))
     (sym (f .ensures) ∙ not-true (f .result) (c .before .if2 .taken))
-    (did-refused 0x05 (now (a .part)) (c .refuse2 .result) (c .refuse2 .ensures))
+    (did-fail 0x05 (now (a .part)) (c .fail2 .result) (c .fail2 .ensures))
 
 cast-if3 : tie.Need-cast-if3
 cast-if3 c = search needs
 
-refuse-requires-3 : tie.Need-refuse-requires-3
-refuse-requires-3 c κs = search needs
+fail-requires-3 : tie.Need-fail-requires-3
+fail-requires-3 c κs = search needs
 
 returns-3 : tie.Need-returns-3
 returns-3 c =
@@ -49,11 +49,11 @@ returns-3 c =
     let s = now (a .block) in
     let st = c .before .before .before .before .before .before .before .before .before .pre .1 in
     let f = c .before .before .before .before .is-format in
-    is-miscounted (a .a) (blockIn s (a .at)) (now (a .part)) (now (a .part)) (a .r) (a .n) (a .h .format) (a .h .count) (c .refuse3 .result) (head-format s (a .at) (a .h) st) (head-count s (a .at) (a .h) st)
+    is-miscounted (a .a) (blockIn s (a .at)) (now (a .part)) (now (a .part)) (a .r) (a .n) (a .h .format) (a .h .count) (c .fail3 .result) (head-format s (a .at) (a .h) st) (head-count s (a .at) (a .h) st)
     (not-false (a .r .writable) (c .before .before .before .before .before .if1 .left))
     (sym (f .ensures) ∙ not-false (f .result) (c .before .before .before .if2 .left))
     (c .before .if3 .taken)
-    (did-refused 0x18 (now (a .part)) (c .refuse3 .result) (c .refuse3 .ensures))
+    (did-fail 0x18 (now (a .part)) (c .fail3 .result) (c .fail3 .ensures))
 
 store-requires : tie.Need-store-requires
 store-requires c κs =
@@ -80,13 +80,13 @@ pub change-elements-spec : {M : Type 1} → statement M
 change-elements-spec =
     tie.close
     (tie.spec
-    refuse-requires
+    fail-requires
     returns
     is-format-requires
-    refuse-requires-2
+    fail-requires-2
     returns-2
     cast-if3
-    refuse-requires-3
+    fail-requires-3
     returns-3
     store-requires
     same-length

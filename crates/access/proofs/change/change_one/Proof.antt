@@ -4,7 +4,7 @@ use denote.Ref.{now}
 use Rattle.access.specs.declared.Checked.the-variants.{Elements, Error}
 use Rattle.access.specs.Walk.{blockIn}
 use Rattle.access.proofs.Checks.{checked-inside}
-use Rattle.access.proofs.Refusing.{did-refused, change-is}
+use Rattle.access.proofs.Failing.{did-fail, change-is}
 use borrow.Author.Needs.{needs}
 use Rattle.access.proofs.change.change_one.Statement.{statement}
 use Rattle.access.proofs.change.change_one.Tie as tie
@@ -15,8 +15,8 @@ check-requires c κs = search needs
 enum-known-c : tie.Need-enum-known-c
 enum-known-c c = search needs
 
-refuse-requires : tie.Need-refuse-requires
-refuse-requires c κs = search needs
+fail-requires : tie.Need-fail-requires
+fail-requires c κs = search needs
 
 enum-known-c-2 : tie.Need-enum-known-c-2
 enum-known-c-2 c = search needs
@@ -30,8 +30,8 @@ returns : tie.Need-returns
 returns c =
     let a = c .before .before .before .before .before .before .before .args in
     let v = c .before .before .c .given in
-    change-is (a .a) (blockIn (now (a .block)) (a .at)) (now (a .part)) (now (a .part)) (c .refuse .result) (Error (v .0 .0)) (sym (v .1) ∙ c .before .before .before .before .check .ensures)
-    (did-refused (v .0 .0) (now (a .part)) (c .refuse .result) (c .refuse .ensures))
+    change-is (a .a) (blockIn (now (a .block)) (a .at)) (now (a .part)) (now (a .part)) (c .fail .result) (Error (v .0 .0)) (sym (v .1) ∙ c .before .before .before .before .check .ensures)
+    (did-fail (v .0 .0) (now (a .part)) (c .fail .result) (c .fail .ensures))
 
 same-length : tie.Need-same-length
 same-length c = search needs
@@ -49,7 +49,7 @@ change-one-spec =
     (tie.spec
     check-requires
     enum-known-c
-    refuse-requires
+    fail-requires
     enum-known-c-2
     change-elements-requires
     returns

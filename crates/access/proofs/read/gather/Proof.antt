@@ -4,7 +4,7 @@ use Prim.Native.Nat.{ℕ, _+_, _-_, _≤_}
 use native.Mathlib.Omega.{arith}
 use lib.ListN.{length, set, take, length-set}
 use denote.Ref.{now}
-use Rattle.drive.specs.Faults.{buffer}
+use Rattle.drive.specs.Faults.{bufferCodes}
 use Rattle.access.specs.Read.{elementsFrom}
 use Rattle.access.proofs.Gathered.{gather-next}
 use borrow.Author.Needs.{needs}
@@ -12,7 +12,7 @@ use Rattle.access.proofs.read.gather.Statement.{statement}
 use Rattle.access.proofs.read.gather.Tie as tie
 
 abbrev Inv-loop : tie.InvT-loop
-Inv-loop part r i n values₀ j₀ values j = (j ≤ n) × (length values ≡ buffer) × (take j values ≡ elementsFrom r i j part)
+Inv-loop part r i n values₀ j₀ values j = (j ≤ n) × (length values ≡ bufferCodes) × (take j values ≡ elementsFrom r i j part)
 
 abbrev μ-loop : tie.MeasureT-loop
 μ-loop part r i n values₀ j₀ values j = n - j

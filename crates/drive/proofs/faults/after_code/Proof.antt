@@ -3,7 +3,7 @@ use Prim.Native.Nat.{ℕ}
 use mathlib.Core.Path.{_∙_, ap}
 use borrow.Author.Needs.{needs}
 use borrow.Author.Tests.{lt-ltb, le-ltb, eq-eqb, ne-eqb}
-use Rattle.drive.specs.Faults.{codes, putOf}
+use Rattle.drive.specs.Faults.{situationCodes, putOf}
 use Rattle.drive.specs.Cycle.{afterCode}
 use Rattle.drive.proofs.faults.after_code.Statement.{statement}
 use Rattle.drive.proofs.faults.after_code.Tie as tie
@@ -19,7 +19,7 @@ returns-2 : tie.Need-returns-2
 unfolding afterCode
 returns-2 c =
     let some = ne-eqb _ 0 (c .before .before .before .if1 .left) in
-    let held = lt-ltb _ codes (rw (c .before .find .ensures) at (c .if2 .taken)) in
+    let held = lt-ltb _ situationCodes (rw (c .before .find .ensures) at (c .if2 .taken)) in
     rw (some, held)
 
 find-requires-2 : tie.Need-find-requires-2
@@ -33,16 +33,16 @@ unfolding afterCode
 returns-3 c =
     let args = c .before .before .before .before .before .before .before .args in
     let some = ne-eqb _ 0 (c .before .before .before .before .before .before .if1 .left) in
-    let lacks = le-ltb _ codes (rw (c .before .before .before .before .find .ensures) at (c .before .before .before .if2 .left)) in
-    let room = lt-ltb _ codes (rw (c .before .before .find2 .ensures) at (c .before .if3 .taken)) in
+    let lacks = le-ltb _ situationCodes (rw (c .before .before .before .before .find .ensures) at (c .before .before .before .if2 .left)) in
+    let room = lt-ltb _ situationCodes (rw (c .before .before .find2 .ensures) at (c .before .if3 .taken)) in
     rw (some, lacks, room) (c .put .ensures ∙ ap (λ (n : ℕ). putOf (args .f) n (args .code)) (c .before .before .find2 .ensures))
 
 returns-4 : tie.Need-returns-4
 unfolding afterCode
 returns-4 c =
     let some = ne-eqb _ 0 (c .before .before .before .before .before .if1 .left) in
-    let lacks = le-ltb _ codes (rw (c .before .before .before .find .ensures) at (c .before .before .if2 .left)) in
-    let none = le-ltb _ codes (rw (c .before .find2 .ensures) at (c .if3 .left)) in
+    let lacks = le-ltb _ situationCodes (rw (c .before .before .before .find .ensures) at (c .before .before .if2 .left)) in
+    let none = le-ltb _ situationCodes (rw (c .before .find2 .ensures) at (c .if3 .left)) in
     rw (some, lacks, none)
 
 pub after-code-spec : {M : Type 1} → statement M

@@ -5,16 +5,16 @@ use borrow.Author.Needs.{needs}
 use mathlib.Core.Path.{_≡_, sym, _∙_}
 use lib.ListN.{length, take, drop}
 use lib.Seq.{getD-take, length-take-le}
-use Rattle.drive.specs.Faults.{codes, buffer, findIn}
+use Rattle.drive.specs.Faults.{situationCodes, bufferCodes, firstIn}
 use Rattle.drive.proofs.Find.{find-hit, find-more, find-end}
 use Rattle.drive.proofs.faults.find.Statement.{statement}
 use Rattle.drive.proofs.faults.find.Tie as tie
 
 abbrev Inv-loop : tie.InvT-loop
-Inv-loop x b i₀ i = (i ≤ codes) × (findIn x (take codes b) ≡ i + findIn x (drop i (take codes b)))
+Inv-loop x b i₀ i = (i ≤ situationCodes) × (firstIn x (take situationCodes b) ≡ i + firstIn x (drop i (take situationCodes b)))
 
 abbrev μ-loop : tie.MeasureT-loop
-μ-loop x b i₀ i = codes - i
+μ-loop x b i₀ i = situationCodes - i
 
 loop-holds : tie.Need-loop-holds Inv-loop μ-loop
 loop-holds c = omega arith
@@ -29,9 +29,9 @@ returns : tie.Need-returns Inv-loop μ-loop
 returns c =
     let b = c .before .before .before .args .t1 in
     let i = c .before .before .loop .i in
-    let hb : length b ≡ buffer = search needs in
-    let hl : length (take codes b) ≡ codes = length-take-le codes b (omega arith) in
-    sym (find-hit _ _ i _ (c .before .before .loop .inv .1) (omega arith) (getD-take codes b i 0 (omega arith) ∙ c .if1 .taken))
+    let hb : length b ≡ bufferCodes = search needs in
+    let hl : length (take situationCodes b) ≡ situationCodes = length-take-le situationCodes b (omega arith) in
+    sym (find-hit _ _ i _ (c .before .before .loop .inv .1) (omega arith) (getD-take situationCodes b i 0 (omega arith) ∙ c .if1 .taken))
 
 add-i : tie.Need-add-i Inv-loop μ-loop
 add-i c = omega arith
@@ -43,16 +43,16 @@ loop-again : tie.Need-loop-again Inv-loop μ-loop
 loop-again c =
     let b = c .before .before .before .args .t1 in
     let i = c .before .before .loop .i in
-    let hb : length b ≡ buffer = search needs in
-    let hl : length (take codes b) ≡ codes = length-take-le codes b (omega arith) in
-    (omega arith, find-more _ _ i _ (c .before .before .loop .inv .1) (omega arith) (λ e. c .if1 .left (sym (getD-take codes b i 0 (omega arith)) ∙ e)))
+    let hb : length b ≡ bufferCodes = search needs in
+    let hl : length (take situationCodes b) ≡ situationCodes = length-take-le situationCodes b (omega arith) in
+    (omega arith, find-more _ _ i _ (c .before .before .loop .inv .1) (omega arith) (λ e. c .if1 .left (sym (getD-take situationCodes b i 0 (omega arith)) ∙ e)))
 
 returns-2 : tie.Need-returns-2 Inv-loop μ-loop
 returns-2 c =
     let b = c .before .before .args .t1 in
     let i = c .before .loop .i in
-    let hb : length b ≡ buffer = search needs in
-    let hl : length (take codes b) ≡ codes = length-take-le codes b (omega arith) in
+    let hb : length b ≡ bufferCodes = search needs in
+    let hl : length (take situationCodes b) ≡ situationCodes = length-take-le situationCodes b (omega arith) in
     sym (find-end _ _ i _ (c .before .loop .inv .1) (omega arith))
 
 pub find-spec : {M : Type 1} → statement M

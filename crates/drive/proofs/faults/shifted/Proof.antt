@@ -7,15 +7,15 @@ use mathlib.Core.Path.{_≡_, refl, sym, ap, _∙_}
 use mathlib.Core.List.{List, _++_, append-nil}
 use lib.ListN.{length, getD, take, set, replicate}
 use lib.Seq.{paste, paste-suc}
-use Rattle.drive.specs.Faults.{codes, buffer}
+use Rattle.drive.specs.Faults.{situationCodes, bufferCodes}
 use Rattle.drive.proofs.faults.shifted.Statement.{statement}
 use Rattle.drive.proofs.faults.shifted.Tie as tie
 
 abbrev Inv-loop : tie.InvT-loop
-Inv-loop b r₀ j₀ r j = (j ≤ buffer - codes) × (r ≡ paste (replicate buffer 0) codes b j)
+Inv-loop b r₀ j₀ r j = (j ≤ bufferCodes - situationCodes) × (r ≡ paste (replicate bufferCodes 0) situationCodes b j)
 
 abbrev μ-loop : tie.MeasureT-loop
-μ-loop b r₀ j₀ r j = buffer - codes - j
+μ-loop b r₀ j₀ r j = bufferCodes - situationCodes - j
 
 loop-holds : tie.Need-loop-holds Inv-loop μ-loop
 loop-holds c = (omega arith, refl)
@@ -48,18 +48,18 @@ loop-again : tie.Need-loop-again Inv-loop μ-loop
 loop-again c =
     let b = c .before .before .args .t1 in
     let j = c .before .loop .j in
-    let hb : length b ≡ buffer = search needs in (
+    let hb : length b ≡ bufferCodes = search needs in (
       omega arith,
-      ap (λ (l : List ℕ). set l (codes + j) (getD b j 0)) (c .before .loop .inv .1)
-          ∙ paste-suc (replicate buffer 0) codes b j 0 (omega arith) (omega arith)
-          ∙ ap (paste (replicate buffer 0) codes b) (sym (add-one j)),
+      ap (λ (l : List ℕ). set l (situationCodes + j) (getD b j 0)) (c .before .loop .inv .1)
+          ∙ paste-suc (replicate bufferCodes 0) situationCodes b j 0 (omega arith) (omega arith)
+          ∙ ap (paste (replicate bufferCodes 0) situationCodes b) (sym (add-one j)),
     )
 
 returns : tie.Need-returns Inv-loop μ-loop
 returns c =
     let b = c .before .before .args .t1 in
-    let e : c .before .loop .j ≡ buffer - codes = omega arith in
-    c .before .loop .inv .1 ∙ ap (paste (replicate buffer 0) codes b) e ∙ append-nil (replicate codes 0 ++ take (buffer - codes) b)
+    let e : c .before .loop .j ≡ bufferCodes - situationCodes = omega arith in
+    c .before .loop .inv .1 ∙ ap (paste (replicate bufferCodes 0) situationCodes b) e ∙ append-nil (replicate situationCodes 0 ++ take (bufferCodes - situationCodes) b)
 
 pub shifted-spec : {M : Type 1} → statement M
 shifted-spec =

@@ -2,7 +2,7 @@
 use Rattle.codes.specs.Number.{numberAt}
 use Rattle.codes.proofs.Number.{number-within}
 use Rattle.part.proofs.Words.{read-so-far, words-next, words-all}
-use Rattle.drive.specs.Faults.{codes}
+use Rattle.drive.specs.Faults.{situationCodes}
 use denote.Ref.{now}
 use lib.ListN.{set, take, drop}
 use mathlib.Core.List.{List}
@@ -14,10 +14,10 @@ use Rattle.part.proofs.form.codes_at.Statement.{statement}
 use Rattle.part.proofs.form.codes_at.Tie as tie
 
 abbrev Inv-loop : tie.InvT-loop
-Inv-loop part at end bytes s₀ i₀ s i = (i ≤ codes) × (s ≡ read-so-far codes part at i)
+Inv-loop part at end bytes s₀ i₀ s i = (i ≤ situationCodes) × (s ≡ read-so-far situationCodes part at i)
 
 abbrev μ-loop : tie.MeasureT-loop
-μ-loop part at end bytes s₀ i₀ s i = codes - i
+μ-loop part at end bytes s₀ i₀ s i = situationCodes - i
 
 mul-end : tie.Need-mul-end Inv-loop μ-loop
 mul-end c = search needs
@@ -60,18 +60,18 @@ loop-again c =
     let a = c .before .before .before .before .before .args in
     let p = now (a .part) in
     let l = c .before .before .loop in
-    let m : a .at + codes * 2 - a .at ≡ codes * 2 = omega arith in
-    let x = c .word-at .ensures ∙ (ap (λ (n : ℕ). numberAt 2 (take n (drop (a .at) p)) (l .i * 2)) m ∙ number-within 2 p (a .at) (codes * 2) (l .i * 2) (omega arith) (omega arith)) in (
+    let m : a .at + situationCodes * 2 - a .at ≡ situationCodes * 2 = omega arith in
+    let x = c .word-at .ensures ∙ (ap (λ (n : ℕ). numberAt 2 (take n (drop (a .at) p)) (l .i * 2)) m ∙ number-within 2 p (a .at) (situationCodes * 2) (l .i * 2) (omega arith) (omega arith)) in (
       search needs,
       ap (λ (y : List ℕ). set y (l .i) (c .word-at .result)) (l .inv .1)
-          ∙ words-next codes p (a .at) (l .i) (c .word-at .result) (omega arith) x,
+          ∙ words-next situationCodes p (a .at) (l .i) (c .word-at .result) (omega arith) x,
     )
 
 returns : tie.Need-returns Inv-loop μ-loop
 returns c =
     let a = c .before .before .before .before .args in
-    let e : c .before .loop .i ≡ codes = omega arith in
-    c .before .loop .inv .1 ∙ words-all codes (now (a .part)) (a .at) (c .before .loop .i) e
+    let e : c .before .loop .i ≡ situationCodes = omega arith in
+    c .before .loop .inv .1 ∙ words-all situationCodes (now (a .part)) (a .at) (c .before .loop .i) e
 
 pub codes-at-spec : {M : Type 1} → statement M
 codes-at-spec =

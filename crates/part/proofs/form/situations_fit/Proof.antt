@@ -1,7 +1,7 @@
 -- The situations before k fit.
 use Rattle.part.proofs.Situations.{from-situation, situation-is, situation-unfit, situation-next}
 use Rattle.part.specs.Record.{wordsAt}
-use Rattle.drive.specs.Faults.{situations, buffer, proper}
+use Rattle.drive.specs.Faults.{situations, bufferCodes, proper}
 use Rattle.catalogue.specs.Table.{rows, parameterBytes, findOf, offsetOf}
 use borrow.Author.Tests.{not-true, not-false}
 use denote.Ref.{now}
@@ -13,7 +13,7 @@ use Rattle.part.proofs.form.situations_fit.Statement.{statement}
 use Rattle.part.proofs.form.situations_fit.Tie as tie
 
 abbrev Inv-loop : tie.InvT-loop
-Inv-loop part k₀ k = (k ≤ situations) × (from-situation (wordsAt buffer part (offsetOf 947)) 0 ≡ from-situation (wordsAt buffer part (offsetOf 947)) k)
+Inv-loop part k₀ k = (k ≤ situations) × (from-situation (wordsAt bufferCodes part (offsetOf 947)) 0 ≡ from-situation (wordsAt bufferCodes part (offsetOf 947)) k)
 
 abbrev μ-loop : tie.MeasureT-loop
 μ-loop part k₀ k = situations - k
@@ -49,7 +49,7 @@ returns c =
     let l = c .before .before .before .before .before .loop in
     let p = now (c .before .before .before .before .before .before .before .args .part) in
     let unfit = situation-is p (offsetOf 947) (l .k) (omega arith) ∙ (ap proper (sym (c .before .before .before .codes-at .ensures)) ∙ (sym (c .before .situation-fits .ensures) ∙ not-true _ (c .if1 .taken))) in
-    sym (l .inv .1 ∙ situation-unfit (wordsAt buffer p (offsetOf 947)) (l .k) (omega arith) unfit)
+    sym (l .inv .1 ∙ situation-unfit (wordsAt bufferCodes p (offsetOf 947)) (l .k) (omega arith) unfit)
 
 add-k : tie.Need-add-k Inv-loop μ-loop
 add-k c = search needs
@@ -63,14 +63,14 @@ loop-again c =
     let l = c .before .before .before .before .before .loop in
     let p = now (c .before .before .before .before .before .before .before .args .part) in
     let fit = situation-is p (offsetOf 947) (l .k) (omega arith) ∙ (ap proper (sym (c .before .before .before .codes-at .ensures)) ∙ (sym (c .before .situation-fits .ensures) ∙ not-false _ (c .if1 .left))) in
-    (omega arith, l .inv .1 ∙ situation-next (wordsAt buffer p (offsetOf 947)) (l .k) (omega arith) fit)
+    (omega arith, l .inv .1 ∙ situation-next (wordsAt bufferCodes p (offsetOf 947)) (l .k) (omega arith) fit)
 
 returns-2 : tie.Need-returns-2 Inv-loop μ-loop
 returns-2 c =
     let l = c .before .loop in
     let p = now (c .before .before .before .args .part) in
     let e : l .k ≡ situations = omega arith in
-    sym (l .inv .1 ∙ ap (from-situation (wordsAt buffer p (offsetOf 947))) e)
+    sym (l .inv .1 ∙ ap (from-situation (wordsAt bufferCodes p (offsetOf 947))) e)
 
 pub situations-fit-spec : {M : Type 1} → statement M
 situations-fit-spec =

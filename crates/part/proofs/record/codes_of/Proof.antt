@@ -1,6 +1,6 @@
 -- The loop has read the first i codes; the others are 0 yet.
 use Rattle.part.proofs.Words.{read-so-far, words-next, words-all}
-use Rattle.drive.specs.Faults.{buffer}
+use Rattle.drive.specs.Faults.{bufferCodes}
 use denote.Ref.{now}
 use lib.ListN.{set}
 use mathlib.Core.List.{List}
@@ -13,10 +13,10 @@ use Rattle.part.proofs.record.codes_of.Statement.{statement}
 use Rattle.part.proofs.record.codes_of.Tie as tie
 
 abbrev Inv-loop : tie.InvT-loop
-Inv-loop part b₀ i₀ b i = (i ≤ buffer) × (b ≡ read-so-far buffer part (offsetOf 947) i)
+Inv-loop part b₀ i₀ b i = (i ≤ bufferCodes) × (b ≡ read-so-far bufferCodes part (offsetOf 947) i)
 
 abbrev μ-loop : tie.MeasureT-loop
-μ-loop part b₀ i₀ b i = buffer - i
+μ-loop part b₀ i₀ b i = bufferCodes - i
 
 loop-holds : tie.Need-loop-holds Inv-loop μ-loop
 loop-holds c = (search needs, refl)
@@ -52,14 +52,14 @@ loop-again c =
     let l = c .before .before .loop in (
       search needs,
       ap (λ (x : List ℕ). set x (l .i) (c .word-at .result)) (l .inv .1)
-          ∙ words-next buffer p (offsetOf 947) (l .i) (c .word-at .result) (omega arith) (c .word-at .ensures),
+          ∙ words-next bufferCodes p (offsetOf 947) (l .i) (c .word-at .result) (omega arith) (c .word-at .ensures),
     )
 
 returns : tie.Need-returns Inv-loop μ-loop
 returns c =
     let p = now (c .before .before .before .args .part) in
-    let e : c .before .loop .i ≡ buffer = omega arith in
-    c .before .loop .inv .1 ∙ words-all buffer p (offsetOf 947) (c .before .loop .i) e
+    let e : c .before .loop .i ≡ bufferCodes = omega arith in
+    c .before .loop .inv .1 ∙ words-all bufferCodes p (offsetOf 947) (c .before .loop .i) e
 
 pub codes-of-spec : {M : Type 1} → statement M
 codes-of-spec =

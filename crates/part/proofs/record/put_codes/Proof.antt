@@ -1,5 +1,5 @@
 -- Word by word, each after those that are put.
-use Rattle.drive.specs.Faults.{buffer}
+use Rattle.drive.specs.Faults.{bufferCodes}
 use Rattle.codes.proofs.Items.{all-length, value-next}
 use Rattle.codes.proofs.Put.{word-length, put-none, put-too-long, put-length}
 use Rattle.codes.specs.Number.{put}
@@ -17,10 +17,10 @@ use Rattle.part.proofs.record.put_codes.Statement.{statement}
 use Rattle.part.proofs.record.put_codes.Tie as tie
 
 abbrev Inv-loop : tie.InvT-loop
-Inv-loop part₀ b i₀ part i = (i ≤ buffer) × (part ≡ put part₀ (offsetOf 947) (writeAll (word 2 .write) (take i b)))
+Inv-loop part₀ b i₀ part i = (i ≤ bufferCodes) × (part ≡ put part₀ (offsetOf 947) (writeAll (word 2 .write) (take i b)))
 
 abbrev μ-loop : tie.MeasureT-loop
-μ-loop part₀ b i₀ part i = buffer - i
+μ-loop part₀ b i₀ part i = bufferCodes - i
 
 cast-if1 : tie.Need-cast-if1 Inv-loop μ-loop
 cast-if1 c = search needs
@@ -29,7 +29,7 @@ returns : tie.Need-returns Inv-loop μ-loop
 unfolding offsetOf findOf rows
 returns c =
     let a = c .before .before .args in
-    let long : length (a .t2) ≡ buffer = search needs in
+    let long : length (a .t2) ≡ bufferCodes = search needs in
     sym (put-too-long (now (a .part)) (offsetOf 947) (writeAll (word 2 .write) (a .t2)) (omega (arith, all-length (word 2 .write) 2 (word-length 2) (a .t2))))
 
 loop-holds : tie.Need-loop-holds Inv-loop μ-loop
@@ -66,7 +66,7 @@ unfolding offsetOf findOf rows
 loop-again c =
     let a = c .before .before .before .before .before .before .before .before .args in
     let l = c .before .before .before .before .before .loop in
-    let long : length (a .t2) ≡ buffer = search needs in (
+    let long : length (a .t2) ≡ bufferCodes = search needs in (
       search needs,
       c .before .before .put-word .ensures
           ∙ ap (λ (x : List ℕ). put x (offsetOf 947 + l .i * 2) (word 2 .write (getD (a .t2) (l .i) 0))) (l .inv .1)
@@ -81,7 +81,7 @@ same-length c =
 returns-2 : tie.Need-returns-2 Inv-loop μ-loop
 returns-2 c =
     let a = c .before .before .before .before .args in
-    let long : length (a .t2) ≡ buffer = search needs in
+    let long : length (a .t2) ≡ bufferCodes = search needs in
     c .before .loop .inv .1 ∙ ap (λ (x : List ℕ). put (now (a .part)) (offsetOf 947) (writeAll (word 2 .write) x)) (take-all (c .before .loop .i) (a .t2) (omega arith))
 
 pub put-codes-spec : {M : Type 1} → statement M

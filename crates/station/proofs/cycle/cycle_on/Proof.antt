@@ -2,7 +2,7 @@
 use mathlib.Core.Path.{_≡_, sym, ap, ap₂, _∙_}
 use mir.Syntax.{w16}
 use mir.ValLaws.{toZ-ofZ}
-use Rattle.drive.specs.declared.Cycled.{Cycled}
+use Rattle.drive.specs.declared.CycleEnd.{CycleEnd}
 use Rattle.drive.specs.Cycle.{cycleOf}
 use Rattle.part.specs.Record.{driveOf, putDrive}
 use Rattle.station.specs.Cycle.{inputOf, cycled}
@@ -68,7 +68,7 @@ returns-3 c =
     let h = c .before .before .before .before .before .before .before .before .before .before .before .before .before .before .before .before .before .fits in
     let e : c .before .before .before .before .before .before .before .cycle-lent .result ≡ cycleOf (driveOf (now (a .part))) (inputOf (record { flags = a .flags; stw1 = a .stw1; nsoll = a .nsoll; nist = a .nist; fault = a .fault }) (now (a .part))) =
     c .before .before .before .before .before .before .before .cycle-lent .ensures ∙ ap₂ cycleOf (c .before .before .before .before .before .before .before .before .load .ensures) (rw (toZ-ofZ w16 (a .nsoll) (h .nsoll), toZ-ofZ w16 (a .nist) (h .nist)) at (c .before .before .before .before .before .before .before .before .before .before .input-of .ensures)) in
-    (c .answered .ensures ∙ (ap (λ (x : Cycled). cycled (x .answer)) e ∙ o .0), c .before .before .before .store .ensures ∙ (ap (λ (x : Cycled). putDrive (x .drive) (now (a .part))) e ∙ o .1))
+    (c .answered .ensures ∙ (ap (λ (x : CycleEnd). cycled (x .output)) e ∙ o .0), c .before .before .before .store .ensures ∙ (ap (λ (x : CycleEnd). putDrive (x .drive) (now (a .part))) e ∙ o .1))
 
 pub cycle-on-spec : {M : Type 1} → statement M
 cycle-on-spec =
