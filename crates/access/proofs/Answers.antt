@@ -16,7 +16,7 @@ use Rattle.codes.specs.Number.{numberAt}
 use Rattle.blocks.specs.Block.{Block, blockLimit, formatSize, sizeOf, blockFits, valuesOf, valuesSize}
 use Rattle.blocks.specs.Request.{Request, requestBlocks}
 use Rattle.blocks.specs.Response.{Response, isAnswer, responseBlocks, isError, hasError, errorsFit, response}
-use Rattle.blocks.specs.Page.{AddressFits, BlockFits, RequestFits, ResponseFits, blockBytes, responseBytes}
+use Rattle.blocks.specs.Page.{BlockFits, RequestFits, ResponseFits, blockBytes, responseBytes}
 use Rattle.blocks.specs.declared.reader.Address.{Address}
 use Rattle.blocks.proofs.Parts.{block-written}
 use Rattle.blocks.proofs.Page.{response-bytes}
@@ -65,7 +65,7 @@ pub record Stores (a : Address) (b : Block) (r : Row) (n : ℕ) : Type 0 where
   pub wide : sizeOf (b .format) ≡ elementSize (r .kind)
   pub count : length (b .values) ≡ n
 
-module _ (a : Address) (f : AddressFits a) (b : Block) (p : List ℕ) (P : Changed → Type 0)
+module _ (a : Address) (b : Block) (p : List ℕ) (P : Changed → Type 0)
     (refuses : (e : ℕ) → e < 65536 → P (failure e p))
     (stores : (r : Row) (n : ℕ) → Stores a b r n → P (storeFrom r (a .subindex) (b .values) p)) where
   elements-cases : (r : Row) (n : ℕ) → checked a ≡ Elements r n → Named a r n → P (ofElements a b p r n)
@@ -164,9 +164,9 @@ module _ (p : List ℕ) (used after : ℕ) (room : used + 4 + 4 * after ≤ bloc
   unfolding blockFits
   leaves-error e small = (error-fits 0x81 e refl small, rw (error-size e) room)
 
-  read-one : (a : Address) → AddressFits a → Leaves (readBlock p used after a)
+  read-one : (a : Address) → Leaves (readBlock p used after a)
   unfolding readBlock
-  read-one a f = go (checked a) (checked-fits a)
+  read-one a = go (checked a) (checked-fits a)
     where
       go : (c : Checked) → CheckedFits a c → Leaves (answerTo p used after a c)
       go (Error e) small = leaves-error e small
@@ -177,12 +177,12 @@ module _ (p : List ℕ) (used after : ℕ) (room : used + 4 + 4 * after ≤ bloc
           (λ t. (values-fit r (a .subindex) n p (h .some) (omega (arith, h .room, h .short)), leb-true size blockLimit t))
           (λ t. leaves-error 0x15 (lit< tt))
 
-read-all : (p : List ℕ) (used : ℕ) (them : List Address) → AllOf AddressFits them → used + 4 * length them ≤ blockLimit → Run 0x81 used (length them) (readBlocks p used them)
-read-all p used [] f room = record { fits = tt; count = refl; short = omega arith }
-read-all p used (a ∷ more) f room =
+read-all : (p : List ℕ) (used : ℕ) (them : List Address) → used + 4 * length them ≤ blockLimit → Run 0x81 used (length them) (readBlocks p used them)
+read-all p used [] room = record { fits = tt; count = refl; short = omega arith }
+read-all p used (a ∷ more) room =
     let b = readBlock p used (length more) a in
-    let one = read-one p used (length more) (omega arith) a (f .0) in
-    one-more 0x81 used (length more) b _ (one .0) (read-all p (used + blockSize b) more (f .1) (one .1))
+    let one = read-one p used (length more) (omega arith) a in
+    one-more 0x81 used (length more) b _ (one .0) (read-all p (used + blockSize b) more (one .1))
 
 -- A change (02): an error word or `40 00` for each address.
 abbrev Small : Block → Type 0
@@ -204,17 +204,17 @@ store-answer r i [] p = small-empty
 store-answer r i (x ∷ xs) p =
     pick AnswerSmall (inside r x) (λ t. store-answer r (i + 1) xs (putElement r i x p)) (λ t. small-error 0x02 (lit< tt))
 
-change-one : (a : Address) → AddressFits a → (b : Block) (p : List ℕ) → AnswerSmall (changeOne a b p)
-change-one a f b p = change-cases a f b p AnswerSmall small-error (λ r n s. store-answer r (a .subindex) (b .values) p)
+change-one : (a : Address) (b : Block) (p : List ℕ) → AnswerSmall (changeOne a b p)
+change-one a b p = change-cases a b p AnswerSmall small-error (λ r n s. store-answer r (a .subindex) (b .values) p)
 
-change-all : (them : List Address) (bs : List Block) (p : List ℕ) (used : ℕ) → AllOf AddressFits them → length bs ≡ length them → used + 4 * length them ≤ blockLimit → Run 0x82 used (length them) (changeAll them bs p .blocks)
-change-all [] bs p used f e room = record { fits = tt; count = refl; short = omega arith }
-change-all (a ∷ more) [] p used f e room = absurd (omega arith)
-change-all (a ∷ more) (b ∷ bs) p used f e room =
+change-all : (them : List Address) (bs : List Block) (p : List ℕ) (used : ℕ) → length bs ≡ length them → used + 4 * length them ≤ blockLimit → Run 0x82 used (length them) (changeAll them bs p .blocks)
+change-all [] bs p used e room = record { fits = tt; count = refl; short = omega arith }
+change-all (a ∷ more) [] p used e room = absurd (omega arith)
+change-all (a ∷ more) (b ∷ bs) p used e room =
     let c = changeOne a b p in
-    let one = change-one a (f .0) b p in
+    let one = change-one a b p in
     one-more 0x82 used (length more) (c .block) _ (one .0)
-    (change-all more bs (c .part) (used + blockSize (c .block)) (f .1) (omega arith) (omega (arith, one .1)))
+    (change-all more bs (c .part) (used + blockSize (c .block)) (omega arith) (omega (arith, one .1)))
 
 -- where no block is an error, all are value blocks
 value-block : (b : Block) → BlockFits 0x81 b → isError b ≡ false → BlockFits 1 b
@@ -283,10 +283,10 @@ module _ (r : Request) (f : RequestFits r) where
   room = omega (arith, f .number .1)
 
   reads : (p : List ℕ) → Run 0x81 4 (length (r .addresses)) (readBlocks p 4 (r .addresses))
-  reads p = read-all p 4 (r .addresses) (f .addresses) room
+  reads p = read-all p 4 (r .addresses) room
 
   changes : (p : List ℕ) → eqb (r .identifier) 1 ≡ false → Run 0x82 4 (length (r .addresses)) (changeAll (r .addresses) (r .blocks) p .blocks)
-  changes p e = change-all (r .addresses) (r .blocks) p 4 (f .addresses) (block-each e) room
+  changes p e = change-all (r .addresses) (r .blocks) p 4 (block-each e) room
 
   all-answers : (p : List ℕ) → Answers (worked r p .response)
   unfolding worked

@@ -15,7 +15,7 @@ use Rattle.codes.specs.Number.{numberAt}
 use Rattle.blocks.specs.Block.{Block, blockLimit}
 use Rattle.blocks.specs.Request.{Request, request}
 use Rattle.blocks.specs.Response.{response}
-use Rattle.blocks.specs.Page.{AddressFits, BlockFits, RequestFits}
+use Rattle.blocks.specs.Page.{BlockFits, RequestFits}
 use Rattle.blocks.proofs.Sound.{request-sound}
 use Rattle.blocks.proofs.Page.{request-valid}
 use Rattle.blocks.specs.declared.reader.Address.{Address}
@@ -67,7 +67,7 @@ module _ {May : Row → ℕ → Type 0} where
       go q j (inr n) = inr (more q j (n .0), n .1)
 
 -- n elements of a row, from element i on
-abbrev Among : Row → ℕ → ℕ → Row → ℕ → Type 0
+abbrev pub Among : Row → ℕ → ℕ → Row → ℕ → Type 0
 Among r i n q j = (q ≡ r) × (i ≤ j) × (j < i + n)
 
 module _ (r : Row) (m : List·Memᴰ r rows) where
@@ -88,7 +88,7 @@ module _ (r : Row) (m : List·Memᴰ r rows) where
       go q j (yes room) (inl s) = inr ((s .0, omega (arith, s .1), omega (arith, s .1)), rw (s .0, s .1, element-stored r i x p room small) ok)
       go q j (no n) (inl s) = inl (ap (elementOf q j) (element-unstored r i x p (omega arith)))
 
-  store-kept : (i : ℕ) (xs p : List ℕ) → i + length xs ≤ r .count → AllOf (λ x. x < 256 ^ elementSize (r .kind)) xs → Kept (Among r i (length xs)) p (storeFrom r i xs p .part)
+  pub store-kept : (i : ℕ) (xs p : List ℕ) → i + length xs ≤ r .count → AllOf (λ x. x < 256 ^ elementSize (r .kind)) xs → Kept (Among r i (length xs)) p (storeFrom r i xs p .part)
   store-kept i [] p room small = kept-none p
   store-kept i (x ∷ xs) p room small =
       pick (λ (c : Changed). Kept (Among r i (length (x ∷ xs))) p (c .part)) (inside r x)
@@ -102,35 +102,35 @@ module _ (r : Row) (m : List·Memᴰ r rows) where
 abbrev AskedBy : Address → Row → ℕ → Type 0
 AskedBy a q j = Names a q j × (q .writable ≡ true)
 
-change-kept : (a : Address) → AddressFits a → (b : Block) → BlockFits 2 b → (p : List ℕ) → Kept (AskedBy a) p (changeOne a b p .part)
-change-kept a f b g p = change-cases a f b p (λ c. Kept (AskedBy a) p (c .part)) (λ e small. kept-none p) stores
+change-kept : (a : Address) (b : Block) → BlockFits 2 b → (p : List ℕ) → Kept (AskedBy a) p (changeOne a b p .part)
+change-kept a b g p = change-cases a b p (λ c. Kept (AskedBy a) p (c .part)) (λ e small. kept-none p) stores
   where
     stores : (r : Row) (n : ℕ) → Stores a b r n → Kept (AskedBy a) p (storeFrom r (a .subindex) (b .values) p .part)
     stores r n s =
         let small : AllOf (λ x. x < 256 ^ elementSize (r .kind)) (b .values) = subst (λ (w : ℕ). AllOf (λ x. x < 256 ^ w) (b .values)) (s .wide) (g .values) in
         kept-more
         (λ q j x. (
-          record { found = rw (x .0) (s .named .found); number = n; passed = rw (x .0) (s .passed); from = x .1; before = omega (arith, s .count, x .2) },
+          record { found = rw (x .0) (s .named .found); number = n; passed = rw (x .0) (s .passed); low = x .1; high = omega (arith, s .count, x .2) },
           rw (x .0) (s .writable),
         ))
         (store-kept r (s .named .row) (a .subindex) (b .values) p (omega (arith, s .count, s .named .room)) small)
 
-all-kept : (them : List Address) (bs : List Block) (p : List ℕ) → AllOf AddressFits them → AllOf (BlockFits 2) bs → Kept (Asked them) p (changeAll them bs p .part)
-all-kept [] bs p f g = kept-none p
-all-kept (a ∷ more) [] p f g = kept-none p
-all-kept (a ∷ more) (b ∷ bs) p f g =
+pub all-kept : (them : List Address) (bs : List Block) (p : List ℕ) → AllOf (BlockFits 2) bs → Kept (Asked them) p (changeAll them bs p .part)
+all-kept [] bs p g = kept-none p
+all-kept (a ∷ more) [] p g = kept-none p
+all-kept (a ∷ more) (b ∷ bs) p g =
     kept-then
-    (kept-more (λ q j x. record { address = a; sent = List·Memᴰ·head refl; names = x .0; writable = x .1 }) (change-kept a (f .0) b (g .0) p))
+    (kept-more (λ q j x. record { address = a; sent = List·Memᴰ·head refl; names = x .0; writable = x .1 }) (change-kept a b (g .0) p))
     (kept-more
     (λ q j x. record { address = x .address; sent = List·Memᴰ·tail (x .sent); names = x .names; writable = x .writable })
-    (all-kept more bs (changeOne a b p .part) (f .1) (g .1)))
+    (all-kept more bs (changeOne a b p .part) (g .1)))
 
 pub only-asked-changes : OnlyAskedChanges
 unfolding worked
 only-asked-changes r p f =
     pick (λ (w : Worked). Kept (Asked (r .addresses)) p (w .part)) (eqb (r .identifier) 1)
     (λ e. kept-none p)
-    (λ e. all-kept (r .addresses) (r .blocks) p (f .addresses) (rw (is-change r f e) at (f .blocks)))
+    (λ e. all-kept (r .addresses) (r .blocks) p (rw (is-change r f e) at (f .blocks)))
 
 -- A well-formed part stays well-formed.
 and-map : {a b c d : Bool} → (a ≡ true → c ≡ true) → (b ≡ true → d ≡ true) → a && b ≡ true → c && d ≡ true

@@ -10,5 +10,7 @@ pub mod Changing
 pub mod Requested
 pub mod Responding
 pub mod Outcomes
+pub mod Lengths
 pub mod Answers
 pub mod Keeps
+pub mod There

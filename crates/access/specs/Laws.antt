@@ -1,16 +1,16 @@
 -- What callers may cite of every request that is worked on a part, whatever that part holds: from document 01, "Response block",
 -- "Parameters of each axis" and "A part is well-formed". Each is a statement here and a proof in proofs/.
 use mathlib.Core.Path.{_≡_}
-use mathlib.Core.Bool.{true, cond, _||_}
-use mathlib.Core.List.{List, [], List·Memᴰ}
+use mathlib.Core.Bool.{true, false, cond, _||_}
+use mathlib.Core.List.{List, [], _∷_, _++_, List·Memᴰ}
 use mathlib.Core.Logic.{_⊎_, _↔_}
-use Prim.Native.Nat.{ℕ, _+_, _≤_, _<_}
+use Prim.Native.Nat.{ℕ, _+_, _-_, _≤_, _<_}
 use lib.Dec.{eqb}
-use lib.ListN.{length, drop}
+use lib.ListN.{length, getD, drop}
 use Rattle.codes.specs.Code.{readable}
 use Rattle.blocks.specs.Block.{Block, blockLimit}
 use Rattle.blocks.specs.Request.{Request}
-use Rattle.blocks.specs.Response.{Response, hasError, response}
+use Rattle.blocks.specs.Response.{Response, isError, hasError, response}
 use Rattle.blocks.specs.Page.{RequestFits, ResponseFits, responseBytes}
 use Rattle.blocks.specs.Place.{headerOf}
 use Rattle.blocks.specs.declared.reader.Address.{Address}
@@ -18,11 +18,12 @@ use Rattle.catalogue.specs.declared.Row.{Row}
 use Rattle.catalogue.specs.declared.Found.the-variants.{At}
 use Rattle.catalogue.specs.Table.{rows, parameterBytes, findOf}
 use Rattle.catalogue.specs.Element.{inside, elementOf}
+use Rattle.part.specs.Layout.{partSize}
 use Rattle.part.specs.WellFormed.{wellFormed}
 use Rattle.access.specs.declared.Checked.the-variants.{Elements}
 use Rattle.access.specs.Address.{checked}
 use Rattle.access.specs.Read.{readBlocks}
-use Rattle.access.specs.Change.{changeAll}
+use Rattle.access.specs.Change.{Changed, changeOne, changeAll}
 use Rattle.access.specs.Work.{worked, outcomeOf}
 
 -- "Header: the same reference, .. axis, N"
@@ -83,8 +84,8 @@ pub record Names (a : Address) (q : Row) (j : ℕ) : Type 0 where
   pub found : findOf (a .pnu) ≡ At q
   pub number : ℕ
   pub passed : checked a ≡ Elements q number
-  pub from : a .subindex ≤ j
-  pub before : j < a .subindex + number
+  pub low : a .subindex ≤ j
+  pub high : j < a .subindex + number
 
 -- one of the addresses names the element, and it is writable
 pub record Asked (them : List Address) (q : Row) (j : ℕ) : Type 0 where
@@ -107,6 +108,39 @@ pub record Kept (May : Row → ℕ → Type 0) (p after : List ℕ) : Type 0 whe
 -- "not writable 0x01", "outside limits 0x02": only what the request names can change, and only to values inside the limits
 abbrev pub OnlyAskedChanges : Type 0
 OnlyAskedChanges = (r : Request) (p : List ℕ) → RequestFits r → Kept (Asked (r .addresses)) p (worked r p .part)
+
+-- one of the addresses of a change, with its block of values, between those before it and those after it
+pub record Turn (r : Request) : Type 0 where
+  pub earlier : List Address
+  pub address : Address
+  pub later : List Address
+  pub earlierBlocks : List Block
+  pub block : Block
+  pub laterBlocks : List Block
+  pub addresses : r .addresses ≡ earlier ++ (address ∷ later)
+  pub blocks : r .blocks ≡ earlierBlocks ++ (block ∷ laterBlocks)
+  pub level : length earlierBlocks ≡ length earlier
+
+-- what that address comes to, on the part that those before it left
+abbrev pub comesTo : (r : Request) → Turn r → List ℕ → Changed
+comesTo r t p = changeOne (t .address) (t .block) (changeAll (t .earlier) (t .earlierBlocks) p .part)
+
+-- it stored element j of the row q: one of its elements from its sub-index on, as many as it counts
+pub record Stored (r : Request) (t : Turn r) (p : List ℕ) (q : Row) (j : ℕ) : Type 0 where
+  pub found : findOf (t .address .pnu) ≡ At q
+  pub low : t .address .subindex ≤ j
+  pub high : j < t .address .subindex + comesTo r t p .stored
+
+-- What is stored is there: an element that a change stored, and that no later address of it names, reads back as the value sent.
+abbrev pub StoredIsThere : Type 0
+StoredIsThere =
+    (r : Request) (p : List ℕ) → RequestFits r → r .identifier ≡ 2 → length p ≡ partSize
+    → (t : Turn r) (q : Row) (j : ℕ) → Stored r t p q j → (Asked (t .later) q j → ⊥)
+    → elementOf q j (worked r p .part) ≡ getD (t .block .values) (j - t .address .subindex) 0
+
+-- an address that answers no error stored every value that was sent
+abbrev pub AnsweredIsStored : Type 0
+AnsweredIsStored = (a : Address) (b : Block) (p : List ℕ) → isError (changeOne a b p .block) ≡ false → changeOne a b p .stored ≡ length (b .values)
 
 -- "A part is well-formed exactly when ..": it stays so when a request is worked on it
 abbrev pub RequestKeepsWellFormed : Type 0
