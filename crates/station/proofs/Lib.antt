@@ -12,3 +12,4 @@ pub mod Refusals
 pub mod Stays
 pub mod Worked
 pub mod Sends
+pub mod Exchange

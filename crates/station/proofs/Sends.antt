@@ -20,7 +20,7 @@ use Rattle.part.specs.Record.{driveOf, putDrive}
 use Rattle.part.specs.WellFormed.{waitingFits}
 use Rattle.part.proofs.Rule.{form-of}
 use Rattle.part.proofs.Laws.{waiting-is-given, cycle-keeps-waiting}
-use Rattle.access.specs.Work.{worked, outcomeOf}
+use Rattle.access.specs.Work.{worked, Outcome, outcomeOf}
 use Rattle.access.proofs.Answers.{answer-readable}
 use Rattle.access.proofs.Keeps.{only-asked-changes}
 use Rattle.station.specs.Frame.{isWrite, isRead, frameReply}
@@ -30,9 +30,11 @@ use Rattle.station.specs.Laws.{WaitsAsRuled, CycleKeepsWaiting, SendsWai
 use Rattle.station.proofs.Judged.{passes}
 
 -- a readable block of the axis itself is worked
-taken-part : (k : ℕ) (s p : List ℕ) (r : Request) → readable blockLimit request s ≡ true → request .read s ≡ got r [] → r .axis ≡ k → outcomeOf k s p .part ≡ withResponse (response .write (worked r p .response)) (worked r p .part)
+pub taken-is :
+    (k : ℕ) (s p : List ℕ) (r : Request) → readable blockLimit request s ≡ true → request .read s ≡ got r [] → r .axis ≡ k
+    → outcomeOf k s p ≡ record { number = 0; stored = worked r p .stored; part = withResponse (response .write (worked r p .response)) (worked r p .part) }
 unfolding outcomeOf
-taken-part k s p r a e x = rw (a, e, eq-eqb (r .axis) k x)
+taken-is k s p r a e x = rw (a, e, eq-eqb (r .axis) k x)
 
 pub waits-as-ruled : WaitsAsRuled
 waits-as-ruled k s p r h a e x =
@@ -40,7 +42,7 @@ waits-as-ruled k s p r h a e x =
     let bs = response .write (worked r p .response) in
     let good : readable blockLimit response bs ≡ true = answer-readable r p fits in
     let short : length bs ≤ blockLimit = responses .exact bs .0 good .0 in
-    let is : waiting (outcomeOf k s p .part) ≡ bs = ap waiting (taken-part k s p r a e x) ∙ waiting-is-given bs (worked r p .part) (only-asked-changes r p fits .size ∙ h) short in
+    let is : waiting (outcomeOf k s p .part) ≡ bs = ap (λ (o : Outcome). waiting (o .part)) (taken-is k s p r a e x) ∙ waiting-is-given bs (worked r p .part) (only-asked-changes r p fits .size ∙ h) short in
     (is, ap (readable blockLimit response) is ∙ good)
 
 pub cycle-keeps : CycleKeepsWaiting

@@ -59,7 +59,7 @@ fresh-well s h =
 abbrev Well : ℕ → List ℕ → Type 0
 Well k p = wellFormed k p ≡ true
 
-part-stays : (c : Call) (p : List ℕ) → CallFits c → Well (owner c) p → Well (owner c) (leaves c p)
+pub part-stays : (c : Call) (p : List ℕ) → CallFits c → Well (owner c) p → Well (owner c) (leaves c p)
 unfolding cyclePart framePart
 part-stays (cycle axis i) p fits w =
     one-of (Well axis) (eqb (cycleRefusal axis i p) 0) _ _ (cycle-well-formed axis p (inputOf i p) w (record { stw1 = fits .stw1; nsoll = fits .nsoll; nist = fits .nist; fault = fits .fault })) w

@@ -3,14 +3,15 @@
 use mathlib.Core.Path.{_≡_}
 use mathlib.Core.Bool.{true, false}
 use mathlib.Core.List.{List, [], _∷_, _++_}
-use Prim.Native.Nat.{ℕ, _≤_, _<_, _^_}
+use Prim.Native.Nat.{ℕ, _+_, _≤_, _<_, _^_}
 use lib.Signed.{mag}
 use lib.ListN.{length, drop}
 use Rattle.codes.specs.Code.{got, AllOf, readable}
 use Rattle.codes.specs.Number.{put}
 use Rattle.blocks.specs.Block.{blockLimit}
 use Rattle.blocks.specs.Request.{Request, request}
-use Rattle.blocks.specs.Response.{response}
+use Rattle.blocks.specs.Response.{Response, response}
+use Rattle.blocks.specs.Page.{RequestFits, requestBytes, ResponseFits, responseBytes}
 use Rattle.blocks.specs.Place.{headerOf}
 use Rattle.part.specs.Layout.{partSize, waitingLength, waiting}
 use Rattle.access.specs.Work.{worked, outcomeOf}
@@ -109,7 +110,61 @@ pub record FromFresh (cs : List Call) (s : List ℕ) : Type 0 where
 abbrev pub NeverIllFormed : Type 0
 NeverIllFormed = (cs : List Call) (s : List ℕ) → AllOf CallFits cs → length s ≡ stationSize → FromFresh cs s
 
--- Demand 3: "every response we send is readable and is the one that demand 2 gives". What waits after a block is worked:
+-- Demand 3, its last sentence: "every response we send is readable and is the one that demand 2 gives." Farm k at rest: on a station of
+-- the right size, its part is well-formed and no response waits.
+pub record AtRest (k : ℕ) (s : List ℕ) : Type 0 where
+  pub low : 1 ≤ k
+  pub high : k ≤ farms
+  pub size : length s ≡ stationSize
+  pub formed : wellFormed k (partOf k s) ≡ true
+  pub idle : waitingLength (partOf k s) ≡ 0
+
+-- the frame that writes a request, and the one that fetches at most n bytes
+abbrev pub writeOf : Request → List ℕ
+writeOf r = 0x5F ∷ 0 ∷ 0x2F ∷ length (requestBytes r) ∷ requestBytes r
+
+abbrev pub fetchOf : ℕ → List ℕ
+fetchOf n = 0x5E ∷ 0 ∷ 0x2F ∷ n ∷ []
+
+-- what may come between the two: frames of others, and any cycle
+abbrev pub Between : ℕ → Call → Type 0
+Between k (cycle axis i) = SentFits i
+Between k (frame farm f m) = farm ≡ k → ⊥
+
+-- a frame that was worked: the elements stored, and the reply, past which the reply memory m is as it was
+abbrev pub replied : List ℕ → ℕ → List ℕ → Answer
+replied reply stored m = toFrame (record { length = length reply; stored = stored; number = 0 }) (reply ++ drop (length reply) m)
+
+-- farm k writes the request r on the station s, with the reply memory m; other calls follow; then it fetches at most n bytes into w
+module _ (k : ℕ) (r : Request) (s m : List ℕ) (between : List Call) (n : ℕ) (w : List ℕ) where
+  -- the response that the rules give for the part at the write
+  abbrev pub ruled : Response
+  ruled = worked r (partOf k s) .response
+
+  -- the station when it is fetched
+  abbrev pub later : List ℕ
+  later = runEnd (machine kinds) between (after kinds (frame k (writeOf r) m) s)
+
+  pub record Exchanged : Type 0 where
+    pub fits : ResponseFits ruled
+    pub short : length (responseBytes ruled) ≤ blockLimit
+    pub acknowledged :
+        answer kinds (frame k (writeOf r) m) s
+        ≡ replied (0x5F ∷ 0 ∷ 0x2F ∷ length (requestBytes r) ∷ []) (worked r (partOf k s) .stored) m
+    pub answered :
+        answer kinds (frame k (fetchOf n) w) later
+        ≡ replied (0x5E ∷ 0 ∷ 0x2F ∷ length (responseBytes ruled) ∷ responseBytes ruled) 0 w
+    pub idle : waitingLength (partOf k (after kinds (frame k (fetchOf n) w) later)) ≡ 0
+
+abbrev pub RespondsAsRuled : Type 0
+RespondsAsRuled =
+    (k : ℕ) (r : Request) (s m : List ℕ) (between : List Call) (n : ℕ) (w : List ℕ)
+    → AtRest k s → RequestFits r → length (requestBytes r) ≤ blockLimit → r .axis ≡ k → 244 ≤ length m
+    → AllOf (Between k) between
+    → length (responseBytes (worked r (partOf k s) .response)) ≤ n → n ≤ blockLimit → 244 ≤ length w
+    → Exchanged k r s m between n w
+
+-- It is made of three: what waits after a block is worked,
 abbrev pub WaitsAsRuled : Type 0
 WaitsAsRuled =
     (k : ℕ) (s p : List ℕ) (r : Request) → length p ≡ partSize → readable blockLimit request s ≡ true → request .read s ≡ got r [] → r .axis ≡ k

@@ -1,0 +1,166 @@
+-- A request that is written by its own farm is answered, when it is fetched, by the response that the rules give, whatever came between.
+use mathlib.Core.Path.{_≡_, refl, sym, ap, subst, _∙_}
+use mathlib.Core.Bool.{Bool, true, false, not, _&&_, _||_}
+use mathlib.Core.List.{List, [], _∷_, _++_, append-nil}
+use Prim.Native.Nat.{ℕ, _+_, _≤_}
+use native.Mathlib.Omega.{arith}
+use lib.Dec.{eqb, leb, ltb}
+use lib.ListN.{length, drop, length-drop}
+use lib.Seq.{length-take-le}
+use borrow.Author.Tests.{eq-eqb, eqb-true, eqb-false, ne-eqb, le-leb, le-ltb}
+use Rattle.codes.specs.Code.{got, AllOf, readable}
+use Rattle.codes.proofs.Put.{put-fits}
+use Rattle.blocks.specs.Block.{blockLimit}
+use Rattle.blocks.specs.Request.{Request, request}
+use Rattle.blocks.specs.Place.{headerOf}
+use Rattle.blocks.specs.Page.{RequestFits, requestBytes, responseBytes}
+use Rattle.blocks.specs.declared.Header.{Header}
+use Rattle.blocks.proofs.Sound.{request-sound}
+use Rattle.blocks.proofs.Request.{request-header}
+use Rattle.blocks.proofs.Page.{request-valid, request-bytes, response-bytes}
+use Rattle.blocks.proofs.Demand.{requests}
+use Rattle.part.specs.Layout.{responseAt, partSize, responseRoom, waitingLength, waiting, withResponse}
+use Rattle.part.specs.WellFormed.{wellFormed}
+use Rattle.part.proofs.Laws.{waiting-length-is}
+use Rattle.access.specs.Work.{worked, Outcome, outcomeOf}
+use Rattle.access.proofs.Answers.{answer-fits, answer-short}
+use Rattle.station.specs.Parts.{farms, stationSize, partOf}
+use Rattle.station.specs.Frame.{lengthByte, blockOf, isWrite, refusalOf, frameAnswer, frameReply, framePart}
+use Rattle.station.specs.Cycle.{Sent, cyclePart}
+use Rattle.station.specs.Runs.{runEnd}
+use Rattle.station.specs.Isolation.{answer, after, machine}
+use Rattle.station.specs.Calls.{Call, cycle, frame, toFrame, kinds, owner}
+use Rattle.station.specs.Laws.{AtRest, writeOf, fetchOf, Between, replied, Exchanged, RespondsAsRuled}
+use Rattle.station.proofs.Isolation.{Right, took-answer, fine, length-after, own, other}
+use Rattle.station.proofs.Sizes.{sized}
+use Rattle.station.proofs.Frames.{formed}
+use Rattle.station.proofs.Refusals.{reply-stands}
+use Rattle.station.proofs.Stays.{part-stays}
+use Rattle.station.proofs.Sends.{taken-is, waits-as-ruled, cycle-keeps}
+
+-- in a well-formed part as many bytes wait as its length says
+waits-all : (k : ℕ) (p : List ℕ) → wellFormed k p ≡ true → waitingLength p ≡ length (waiting p)
+waits-all k p w =
+    let f = formed k p w in
+    let room : length (responseRoom p) ≡ blockLimit = length-take-le blockLimit (drop responseAt p) (rw length-drop (omega (arith, f .0))) in
+    sym (length-take-le (waitingLength p) (responseRoom p) (omega (arith, f .1, room)))
+
+-- a write of a readable block of the farm's own axis, and a fetch of what waits, are refused by no number
+module _ (k : ℕ) (m p : List ℕ) (w : wellFormed k p ≡ true) (room : 244 ≤ length m) where
+  write-passes :
+      (b : List ℕ) → waitingLength p ≡ 0 → length b ≤ blockLimit → readable blockLimit request b ≡ true → headerOf b .axis ≡ k
+      → refusalOf k (0x5F ∷ 0 ∷ 0x2F ∷ length b ∷ b) (length m) p ≡ 0
+  unfolding refusalOf
+  write-passes b idle short reads mine =
+      rw (w, le-ltb (length m) 244 room, le-ltb (length (0x5F ∷ 0 ∷ 0x2F ∷ length b ∷ b)) 4 (omega arith), le-leb (length b) blockLimit short, eq-eqb (length b) (length b) refl, idle, reads, eq-eqb (headerOf b .axis) k mine)
+
+  fetch-passes : (n : ℕ) → (waitingLength p ≡ 0 → ⊥) → waitingLength p ≤ n → n ≤ blockLimit → refusalOf k (fetchOf n) (length m) p ≡ 0
+  unfolding refusalOf
+  fetch-passes n some enough short = rw (w, le-ltb (length m) 244 room, le-leb n blockLimit short, ne-eqb (waitingLength p) 0 some, le-ltb n (waitingLength p) enough)
+
+-- a request of the page, as its block
+module _ (r : Request) (fits : RequestFits r) (short : length (requestBytes r) ≤ blockLimit) where
+  reads : readable blockLimit request (requestBytes r) ≡ true
+  reads = requests .exact (requestBytes r) .1 (short, (r, fits, refl))
+
+  reads-back : request .read (requestBytes r) ≡ got r []
+  reads-back =
+      ap (request .read) (sym (append-nil (request .write r) ∙ request-bytes r)) ∙ request-sound .back r [] (request-valid r .1 fits)
+
+  axis-is : headerOf (requestBytes r) .axis ≡ r .axis
+  axis-is = ap (λ (h : Header). h .axis) (request-header (requestBytes r) r [] reads-back)
+
+-- what a write and a fetch that pass answer and leave
+module _ (k : ℕ) (f m p : List ℕ) (e : refusalOf k f (length m) p ≡ 0) where
+  written :
+      isWrite f ≡ true
+      → (toFrame (frameAnswer k f m p) (frameReply k f m p) ≡ replied (0x5F ∷ 0 ∷ 0x2F ∷ lengthByte f ∷ []) (outcomeOf k (blockOf f) p .stored) m)
+      × (framePart k f m p ≡ outcomeOf k (blockOf f) p .part)
+  unfolding frameAnswer framePart
+  written is = (rw (reply-stands k f m p, e, is) refl, rw (e, is) refl)
+
+  fetched :
+      isWrite f ≡ false → (bs : List ℕ) → waitingLength p ≡ length bs → waiting p ≡ bs
+      → (toFrame (frameAnswer k f m p) (frameReply k f m p) ≡ replied (0x5E ∷ 0 ∷ 0x2F ∷ length bs ∷ bs) 0 m)
+      × (framePart k f m p ≡ withResponse [] p)
+  unfolding frameAnswer framePart
+  fetched isnt bs long same =
+      let reply : 0x5E ∷ 0 ∷ 0x2F ∷ waitingLength p ∷ waiting p ≡ 0x5E ∷ 0 ∷ 0x2F ∷ length bs ∷ bs =
+          ap (λ (x : ℕ). 0x5E ∷ 0 ∷ 0x2F ∷ x ∷ waiting p) long ∙ ap (λ (l : List ℕ). 0x5E ∷ 0 ∷ 0x2F ∷ length bs ∷ l) same in
+      (rw (reply-stands k f m p, e, isnt) (ap (λ (l : List ℕ). replied l 0 m) reply), rw (e, isnt) refl)
+
+-- the response waits, whatever comes between
+record Waits (k : ℕ) (bs s : List ℕ) : Type 0 where
+  size : length s ≡ stationSize
+  formed : wellFormed k (partOf k s) ≡ true
+  waits : waiting (partOf k s) ≡ bs
+
+module _ (k : ℕ) (low : 1 ≤ k) (high : k ≤ farms) (bs : List ℕ) where
+  at-home : (s : List ℕ) → length s ≡ stationSize → Right k (length s)
+  at-home s size = record { low = low; high = high; size = size }
+
+  elsewhere : (c : Call) (s : List ℕ) → Waits k bs s → (owner c ≡ k → ⊥) → Waits k bs (after kinds c s)
+  elsewhere c s h d =
+      let same = other kinds sized c s k (at-home s (h .size)) d in
+      record {
+        size = length-after kinds sized c s ∙ h .size;
+        formed = ap (wellFormed k) same ∙ h .formed;
+        waits = ap waiting same ∙ h .waits;
+      }
+
+  one-call : (c : Call) (s : List ℕ) → Between k c → Waits k bs s → Waits k bs (after kinds c s)
+  one-call (frame farm f m) s d h = elsewhere (frame farm f m) s h d
+  one-call (cycle axis i) s fits h = go (eqb axis k) refl
+    where
+      go : (b : Bool) → eqb axis k ≡ b → Waits k bs (after kinds (cycle axis i) s)
+      go false e = elsewhere (cycle axis i) s h (eqb-false axis k e)
+      go true e = subst (λ (j : ℕ). Waits k bs (after kinds (cycle j i) s)) (sym (eqb-true axis k e))
+          (let mine = own kinds sized (cycle k i) s (at-home s (h .size)) in
+          record {
+            size = length-after kinds sized (cycle k i) s ∙ h .size;
+            formed = ap (wellFormed k) mine ∙ part-stays (cycle k i) (partOf k s) fits (h .formed);
+            waits = ap waiting mine ∙ (cycle-keeps k i (partOf k s) ∙ h .waits);
+          })
+
+  many-calls : (cs : List Call) (s : List ℕ) → AllOf (Between k) cs → Waits k bs s → Waits k bs (runEnd (machine kinds) cs s)
+  unfolding runEnd
+  many-calls [] s b h = h
+  many-calls (c ∷ cs) s b h = many-calls cs (after kinds c s) (b .1) (one-call c s (b .0) h)
+
+pub responds-as-ruled : RespondsAsRuled
+responds-as-ruled k r s m between n w rest fits short mine room calls enough most wide =
+    let p : List ℕ = partOf k s in
+    let home : Right k (length s) = record { low = rest .low; high = rest .high; size = rest .size } in
+    let bytes = reads r fits short in
+    let back = reads-back r fits short in
+    let write = frame k (writeOf r) m in
+    let pass = write-passes k m p (rest .formed) room (requestBytes r) (rest .idle) short bytes (axis-is r fits short ∙ mine) in
+    let first = written k (writeOf r) m p pass refl in
+    let came = taken-is k (requestBytes r) p r bytes back mine in
+    let left = own kinds sized write s home in
+    let bs : List ℕ = responseBytes (worked r p .response) in
+    let waits : Waits k bs (after kinds write s) =
+        record {
+          size = length-after kinds sized write s ∙ rest .size;
+          formed = ap (wellFormed k) left ∙ part-stays write p tt (rest .formed);
+          waits = ap waiting (left ∙ first .1)
+              ∙ (waits-as-ruled k (requestBytes r) p r (formed k p (rest .formed) .0) bytes back mine .0 ∙ response-bytes (worked r p .response));
+        } in
+    let then = runEnd (machine kinds) between (after kinds write s) in
+    let still = many-calls k (rest .low) (rest .high) bs between (after kinds write s) calls waits in
+    let q : List ℕ = partOf k then in
+    let there : Right k (length then) = at-home k (rest .low) (rest .high) bs then (still .size) in
+    let long : waitingLength q ≡ length bs = waits-all k q (still .formed) ∙ ap length (still .waits) in
+    let sent = fetch-passes k w q (still .formed) wide n (λ z. omega (arith, z, long)) (omega (arith, long)) most in
+    let second = fetched k (fetchOf n) w q sent refl bs long (still .waits) in
+    record {
+      fits = answer-fits r p fits;
+      short = answer-short r p fits;
+      acknowledged =
+          took-answer kinds write s (fine home)
+          ∙ (first .0 ∙ ap (λ (o : Outcome). replied (0x5F ∷ 0 ∷ 0x2F ∷ length (requestBytes r) ∷ []) (o .stored) m) came);
+      answered = took-answer kinds (frame k (fetchOf n) w) then (fine there) ∙ second .0;
+      idle =
+          ap waitingLength (own kinds sized (frame k (fetchOf n) w) then there ∙ second .1)
+          ∙ waiting-length-is [] q (formed k q (still .formed) .0) (omega arith);
+    }
