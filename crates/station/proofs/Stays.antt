@@ -32,7 +32,7 @@ pub parts-length : (n : ℕ) → length (freshParts n) ≡ n * partSize
 parts-length zero = sym (zero-mul partSize)
 parts-length (suc n) = omega (arith, length-append freshPart (freshParts n), fresh-length, parts-length n, suc-mul n partSize)
 
-fresh-at : (j n : ℕ) → j < n → window (j * partSize) partSize (freshParts n) ≡ freshPart
+pub fresh-at : (j n : ℕ) → j < n → window (j * partSize) partSize (freshParts n) ≡ freshPart
 unfolding window
 fresh-at j zero h = absurd (omega arith)
 fresh-at zero (suc n) h = rw zero-mul (take-at freshPart (freshParts n) partSize fresh-length)

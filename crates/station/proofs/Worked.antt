@@ -1,6 +1,10 @@
--- P1 to P8 answer as document 01 says: one statement over the list of them.
+-- P1 to P8 answer and end as document 01 says: one statement over the list of them.
 use mathlib.Core.Path.{_≡_, refl, ap, _∙_}
-use mathlib.Core.List.{map}
+use mathlib.Core.List.{List, [], _∷_, map}
+use Prim.Native.Nat.{ℕ, _+_, _-_, _*_, _≤_}
+use native.Mathlib.Omega.{arith}
+use lib.Dec.{lit≤}
+use lib.ListN.{length}
 use Rattle.codes.specs.Code.{readable}
 use Rattle.codes.specs.Number.{numberAt, put}
 use Rattle.blocks.specs.Block.{formatSize, sizeOf, blockFits, valuesOf, valuesSize, block}
@@ -9,26 +13,63 @@ use Rattle.blocks.specs.Response.{responseBlocks, hasError, errorsFit, response
 use Rattle.drive.specs.Cycle.{wordOf, wordUsed, setpointUsed, afterAck, afterCode, stateAfter, effectiveOf, nearOf, fastOf, statusOf, cycleOf}
 use Rattle.catalogue.specs.Table.{rows, parameterBytes, findOf, offsetOf}
 use Rattle.catalogue.specs.Element.{inside, elementOf, putElement}
-use Rattle.part.specs.Layout.{withResponse}
-use Rattle.part.specs.Record.{stateOf, driveOf, putDrive}
+use Rattle.codes.proofs.Put.{put-length}
+use Rattle.part.specs.Layout.{partSize, withResponse}
+use Rattle.part.proofs.Laws.{fresh-length}
+use Rattle.part.specs.Record.{stateOf, wordsAt, driveOf, putDrive}
 use Rattle.part.specs.Fresh.{freshPart}
 use Rattle.part.specs.WellFormed.{limitsFit, fixedFit, waitingFits, unusedFit, wellFormed}
 use Rattle.access.specs.Address.{checked}
 use Rattle.access.specs.Read.{readBlock}
 use Rattle.access.specs.Change.{changeOne}
 use Rattle.access.specs.Work.{worked, outcomeOf}
-use Rattle.station.specs.Parts.{farms, freshParts, window, withWindow, refusal}
+use Rattle.station.specs.Parts.{farms, stationSize, partOf, withPart, freshParts, window, withWindow, refusal}
 use Rattle.station.specs.Frame.{refusalOf, frameAnswer, frameReply, framePart}
 use Rattle.station.specs.Cycle.{cycleRefusal, cycleAnswer, cyclePart}
-use Rattle.station.specs.Runs.{runAnswers}
+use Rattle.station.specs.Runs.{runAnswers, runEnd}
 use Rattle.station.specs.Isolation.{answer, after, machine}
-use Rattle.station.specs.Calls.{kinds}
-use Rattle.station.specs.Worked.{workedCalls, WorkedByHand}
-use Rattle.station.proofs.Stays.{made}
+use Rattle.station.specs.Calls.{Call, kinds}
+use Rattle.station.specs.Worked.{workedCalls, drivenPart, endedPart, WorkedByHand}
+use Rattle.station.proofs.Isolation.{ends}
+use Rattle.station.proofs.Windows.{length-with, window-same, window-after}
+use Rattle.station.proofs.Sizes.{drive-length}
+use Rattle.station.proofs.Stays.{parts-length, fresh-at, made}
 
-computed : runAnswers (machine kinds) (map (λ w. w .call) workedCalls) (freshParts farms) ≡ map (λ w. w .answer) workedCalls
+abbrev calls : List Call
+calls = map (λ w. w .call) workedCalls
+
+answers-computed : runAnswers (machine kinds) calls (freshParts farms) ≡ map (λ w. w .answer) workedCalls
 unfolding readable numberAt put formatSize sizeOf blockFits valuesOf valuesSize block address requestBlocks request responseBlocks hasError errorsFit response wordOf wordUsed setpointUsed afterAck afterCode stateAfter effectiveOf nearOf fastOf statusOf cycleOf rows parameterBytes findOf offsetOf inside elementOf putElement withResponse stateOf driveOf putDrive freshPart limitsFit fixedFit waitingFits unusedFit wellFormed checked readBlock changeOne worked outcomeOf window withWindow refusal refusalOf frameAnswer frameReply framePart cycleRefusal cycleAnswer cyclePart runAnswers answer after
-computed = refl
+answers-computed = refl
+
+end-computed : runEnd (machine kinds) calls (freshParts farms) ≡ withPart 1 endedPart (freshParts farms)
+unfolding readable numberAt put formatSize sizeOf blockFits valuesOf valuesSize block address requestBlocks request responseBlocks hasError errorsFit response wordOf wordUsed setpointUsed afterAck afterCode stateAfter effectiveOf nearOf fastOf statusOf cycleOf rows parameterBytes findOf offsetOf inside elementOf putElement withResponse stateOf driveOf putDrive freshPart limitsFit fixedFit waitingFits unusedFit wellFormed checked readBlock changeOne worked outcomeOf window withWindow refusal refusalOf frameAnswer frameReply framePart cycleRefusal cycleAnswer cyclePart runEnd answer after
+end-computed = refl
+
+marks-computed : wordsAt 4 endedPart (offsetOf 30001) ≡ 1000 ∷ 0 ∷ 0 ∷ 0 ∷ []
+unfolding rows parameterBytes findOf offsetOf elementOf putElement numberAt put putDrive freshPart
+marks-computed = refl
+
+ended-length : length endedPart ≡ partSize
+ended-length = put-length drivenPart (offsetOf 30001) (0x03 ∷ 0xE8 ∷ []) ∙ (drive-length _ freshPart ∙ fresh-length)
+
+-- a part of 16 fresh ones ends inside them
+ends-within : (k : ℕ) → 1 ≤ k → k ≤ farms → (k - 1) * partSize + partSize ≤ length (freshParts farms)
+ends-within k low high = omega (arith, ends k farms partSize low high, parts-length farms)
 
 pub worked-by-hand : WorkedByHand
-worked-by-hand s h = ap (runAnswers (machine kinds) (map (λ w. w .call) workedCalls)) (made s h) ∙ computed
+worked-by-hand s h =
+    let end = ap (runEnd (machine kinds) calls) (made s h) ∙ end-computed in
+    let long : length (freshParts farms) ≡ stationSize = parts-length farms in
+    let first = ap (partOf 1) end ∙ window-same ((1 - 1) * partSize) partSize endedPart (freshParts farms) (ends-within 1 (lit≤ tt) (lit≤ tt)) ended-length in
+    record {
+      answered = ap (runAnswers (machine kinds) calls) (made s h) ∙ answers-computed;
+      size = ap length end ∙ (length-with ((1 - 1) * partSize) partSize endedPart (freshParts farms) (ends-within 1 (lit≤ tt) (lit≤ tt)) ended-length ∙ long);
+      marks = ap (λ (p : List ℕ). wordsAt 4 p (offsetOf 30001)) first ∙ marks-computed;
+      first = first;
+      others = λ k low high.
+          ap (partOf k) end
+          ∙ (window-after ((1 - 1) * partSize) partSize endedPart (freshParts farms) (ends-within 1 (lit≤ tt) (lit≤ tt)) ended-length
+          ((k - 1) * partSize) partSize (ends 1 (k - 1) partSize (lit≤ tt) (omega arith)) (ends-within k (omega arith) high)
+          ∙ fresh-at (k - 1) farms (omega arith));
+    }

@@ -1,11 +1,19 @@
--- Document 01, "Journal program" and "Worked by hand": P1 to P8, the calls on a fresh station in order, and what each answers.
+-- Document 01, "Journal program" and "Worked by hand": P1 to P8, the calls on a fresh station in order, what each answers, and how
+-- the station ends.
 use mathlib.Core.Path.{_≡_}
 use mathlib.Core.List.{List, [], _∷_, _++_, map}
-use Prim.Native.Nat.{ℕ, _-_}
+use Prim.Native.Nat.{ℕ, _-_, _≤_}
 use lib.IntN.{pos}
 use lib.ListN.{length, replicate}
-use Rattle.station.specs.Parts.{stationSize, freshStation}
-use Rattle.station.specs.Runs.{runAnswers}
+use Rattle.codes.specs.Number.{put}
+use Rattle.drive.specs.declared.states.State.the-variants.{S1}
+use Rattle.drive.specs.Speed.{still}
+use Rattle.drive.specs.Faults.{noFaults}
+use Rattle.catalogue.specs.Table.{offsetOf}
+use Rattle.part.specs.Fresh.{freshPart}
+use Rattle.part.specs.Record.{wordsAt, putDrive}
+use Rattle.station.specs.Parts.{farms, stationSize, partOf, freshStation}
+use Rattle.station.specs.Runs.{runAnswers, runEnd}
 use Rattle.station.specs.Isolation.{machine}
 use Rattle.station.specs.Calls.{Call, cycle, frame, Answer, toCycle, toFrame, kinds}
 
@@ -68,8 +76,35 @@ workedCalls =
     ∷ frameExample 1 fetch 0 fourth 0
     ∷ []
 
+-- farm 1's part when they are over: fresh, but for what the four cycles left in its drive record, and for mark 0, 1000
+abbrev pub drivenPart : List ℕ
+drivenPart =
+    putDrive
+    (record {
+      state = S1;
+      word = 0x047D;
+      setpoint = still;
+      effective = still;
+      status = 0x0360;
+      actual = still;
+      faults = noFaults;
+    })
+    freshPart
+
+abbrev pub endedPart : List ℕ
+endedPart = put drivenPart (offsetOf 30001) (0x03 ∷ 0xE8 ∷ [])
+
+-- what is answered, and how the station ends
+pub record Ends (answers : List Answer) (end : List ℕ) : Type 0 where
+  pub answered : answers ≡ map (λ w. w .answer) workedCalls
+  pub size : length end ≡ stationSize
+  pub marks : wordsAt 4 (partOf 1 end) (offsetOf 30001) ≡ 1000 ∷ 0 ∷ 0 ∷ 0 ∷ []
+  pub first : partOf 1 end ≡ endedPart
+  pub others : (k : ℕ) → 2 ≤ k → k ≤ farms → partOf k end ≡ freshPart
+
 -- whatever stood in the memory before
 abbrev pub WorkedByHand : Type 0
 WorkedByHand =
     (s : List ℕ) → length s ≡ stationSize
-    → runAnswers (machine kinds) (map (λ w. w .call) workedCalls) (freshStation s) ≡ map (λ w. w .answer) workedCalls
+    → let calls = map (λ w. w .call) workedCalls in
+    Ends (runAnswers (machine kinds) calls (freshStation s)) (runEnd (machine kinds) calls (freshStation s))
