@@ -14,6 +14,7 @@ use Rattle.blocks.specs.Place.{headerOf}
 use Rattle.blocks.proofs.Sound.{request-sound}
 use Rattle.blocks.proofs.Request.{request-header}
 use Rattle.access.specs.Work.{taken, takenIf, outcomeOf}
+use Rattle.station.specs.Laws.{BlockNumbered}
 
 module _ (k : ℕ) (s p : List ℕ) where
   axis-number : (r : Request) (b : Bool) → eqb (r .axis) k ≡ b → taken k p r .number ≡ cond (not b) 11 0
@@ -44,3 +45,6 @@ module _ (k : ℕ) (s p : List ℕ) where
       go true (got r t) z = of r (eqb (r .axis) k) refl z
       go false (got r t) z = (refl, refl)
       go b bad z = (refl, refl)
+
+pub block-numbered : BlockNumbered
+block-numbered = outcome-number

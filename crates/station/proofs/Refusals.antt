@@ -21,7 +21,7 @@ use Rattle.station.specs.Frame.{isWrite, isRead, slot, index, lengthByte
 use Rattle.station.specs.Cycle.{cycleRefusal, cycleAnswer, cyclePart}
 use Rattle.station.specs.Isolation.{answer, after}
 use Rattle.station.specs.Calls.{Call, cycle, frame, kinds, owner, answers, leaves}
-use Rattle.station.specs.Laws.{numberIn, refusedBy, Refuses, Refused, EmptyReply, ReplyStands, ForeignAxis, UnreadableBlock}
+use Rattle.station.specs.Laws.{numberIn, refusedBy, laterTests, tableNumber, NumberedByTable, Refuses, Refused, EmptyReply, ReplyStands, ForeignAxis, UnreadableBlock}
 use Rattle.station.proofs.Isolation.{took-answer, took, gave-answer, gave}
 use Rattle.station.proofs.Sizes.{one-of}
 use Rattle.station.proofs.Windows.{with-same}
@@ -91,6 +91,48 @@ is-refused c s isnt = go (way c s)
     go (refused n why a k) =
         record { number = isnt; answered = a ∙ ap (refusedBy c) (sym (ap numberIn a ∙ number-by c (suc n))); kept = k }
     go (done z d) = absurd (isnt z)
+
+-- the whole table: where farm or size is refused, and where the part is left to judge
+early-number : (a b w : Bool) (rest n : ℕ) → cond a 1 (cond b 2 0) ≡ suc n → cond a 1 (cond (b || w) 2 rest) ≡ suc n
+early-number true b w rest n e = e
+early-number false true w rest n e = e
+early-number false false w rest n e = absurd (omega arith)
+
+late-number : (a b w : Bool) (rest : ℕ) → _≡_ {A = ℕ} (cond a 1 (cond b 2 0)) 0 → cond w 2 rest ≡ cond a 1 (cond (b || w) 2 rest)
+late-number true b w rest e = absurd (omega arith)
+late-number false true w rest e = absurd (omega arith)
+late-number false false w rest e = refl
+
+part-tests : (c : Call) (p : List ℕ) → partRefusal c p ≡ cond (not (wellFormed (owner c) p)) 2 (laterTests c p)
+unfolding cycleRefusal refusalOf
+part-tests (cycle axis i) p = refl
+part-tests (frame farm f m) p = refl
+
+part-number : (c : Call) (p : List ℕ) → numberIn (answers c p) ≡ partRefusal c p
+part-number c p = go (partRefusal c p) refl
+  where
+    go : (n : ℕ) → partRefusal c p ≡ n → numberIn (answers c p) ≡ partRefusal c p
+    go zero e = part-done c p e ∙ sym e
+    go (suc n) e = ap numberIn (part-answer c p n e) ∙ (number-by c (suc n) ∙ sym e)
+
+pub numbered-by-table : NumberedByTable
+unfolding refusal
+numbered-by-table c s = go (refusal (owner c) (length s)) refl
+  where
+    out : Bool
+    out = not (leb 1 (owner c) && leb (owner c) farms)
+
+    other : Bool
+    other = not (eqb (length s) stationSize)
+
+    ill : Bool
+    ill = not (wellFormed (owner c) (partOf (owner c) s))
+
+    go : (n : ℕ) → refusal (owner c) (length s) ≡ n → numberIn (answer kinds c s) ≡ tableNumber c s
+    go (suc n) e = ap numberIn (early-answer c s n e) ∙ (number-by c (suc n) ∙ sym (early-number out other ill (laterTests c (partOf (owner c) s)) n e))
+    go zero e =
+        ap numberIn (took-answer kinds c s e)
+        ∙ (part-number c (partOf (owner c) s) ∙ (part-tests c (partOf (owner c) s) ∙ late-number out other ill (laterTests c (partOf (owner c) s)) e))
 
 pub empty-reply : EmptyReply
 empty-reply k f m s n e low high =

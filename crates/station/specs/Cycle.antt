@@ -36,12 +36,12 @@ inputOf i p =
       threshold = numberAt 2 p (offsetOf 30003);
     }
 
--- "2: .. the caller's own part not well-formed"; "12: cycle flags above 3"
+-- number 12, where the part is well-formed: "cycle flags above 3"
+abbrev pub cycleTests : Sent → ℕ
+cycleTests i = cond (ltb 3 (i .flags)) 12 0
+
 unfoldable pub cycleRefusal : ℕ → Sent → List ℕ → ℕ
-cycleRefusal k i p =
-    cond (not (wellFormed k p)) 2
-    (cond (ltb 3 (i .flags)) 12
-    0)
+cycleRefusal k i p = cond (not (wellFormed k p)) 2 (cycleTests i)
 
 -- "a refused cycle answers its number and zeros"
 abbrev pub refusedCycle : ℕ → Cycled

@@ -40,11 +40,10 @@ isRead f = eqb (function f) 0x5E
 abbrev pub lengthFits : List ℕ → Bool
 lengthFits f = leb (lengthByte f) blockLimit && eqb (length (blockOf f)) (cond (isWrite f) (lengthByte f) 0)
 
--- The order of checks is the order of numbers, from 2 on; m is the size of the reply memory.
-unfoldable pub refusalOf : ℕ → List ℕ → ℕ → List ℕ → ℕ
-refusalOf k f m p =
-    cond (not (wellFormed k p)) 2
-    (cond (ltb m 244) 3
+-- numbers 3 to 11, where the part p is well-formed; m is the size of the reply memory
+abbrev pub frameTests : ℕ → List ℕ → ℕ → List ℕ → ℕ
+frameTests k f m p =
+    cond (ltb m 244) 3
     (cond (ltb (length f) 4 || not (isWrite f || isRead f)) 4
     (cond (not (eqb (slot f) 0)) 5
     (cond (not (eqb (index f) 47)) 6
@@ -53,7 +52,11 @@ refusalOf k f m p =
     (cond (isRead f && ltb (lengthByte f) (waitingLength p)) 9
     (cond (isWrite f && not (readable blockLimit request (blockOf f))) 10
     (cond (isWrite f && not (eqb (headerOf (blockOf f) .axis) k)) 11
-    0)))))))))
+    0))))))))
+
+-- "The order of checks is the order of numbers.", from 2 on
+unfoldable pub refusalOf : ℕ → List ℕ → ℕ → List ℕ → ℕ
+refusalOf k f m p = cond (not (wellFormed k p)) 2 (frameTests k f m p)
 
 -- "Returned": the code of a number from 5 to 11
 abbrev pub codeOf : ℕ → ℕ

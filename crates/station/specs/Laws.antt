@@ -1,9 +1,10 @@
 -- What callers may cite of every call on a station in place of its text: from document 01, "Frames and refusal numbers", and demands
 -- 1 and 2. Each is a statement here and a proof in proofs/.
 use mathlib.Core.Path.{_≡_}
-use mathlib.Core.Bool.{true, false}
+use mathlib.Core.Bool.{true, false, cond, not, _&&_, _||_}
 use mathlib.Core.List.{List, [], _∷_, _++_}
 use Prim.Native.Nat.{ℕ, _+_, _≤_, _<_, _^_}
+use lib.Dec.{eqb, leb}
 use lib.Signed.{mag}
 use lib.ListN.{length, drop}
 use Rattle.codes.specs.Code.{got, AllOf, readable}
@@ -18,8 +19,8 @@ use Rattle.access.specs.Work.{worked, outcomeOf}
 use Rattle.part.specs.Fresh.{freshPart}
 use Rattle.part.specs.WellFormed.{wellFormed}
 use Rattle.station.specs.Parts.{farms, stationSize, partOf, freshStation}
-use Rattle.station.specs.Frame.{isWrite, blockOf, refusalOf, refusedReply, replyOf, frameReply}
-use Rattle.station.specs.Cycle.{Sent, refusedCycle, cyclePart}
+use Rattle.station.specs.Frame.{isWrite, blockOf, frameTests, refusalOf, refusedReply, replyOf, frameReply}
+use Rattle.station.specs.Cycle.{Sent, cycleTests, refusedCycle, cyclePart}
 use Rattle.station.specs.Runs.{runAnswers, runEnd}
 use Rattle.station.specs.Isolation.{Isolated, answer, after, machine}
 use Rattle.station.specs.Calls.{Call, cycle, frame, Answer, toCycle, toFrame, owner, kinds}
@@ -41,6 +42,28 @@ KeepsOthers =
 abbrev pub numberIn : Answer → ℕ
 numberIn (toCycle a) = a .number
 numberIn (toFrame a m) = a .number
+
+-- Document 01's table of refusal numbers, for any call on a station: the first that applies, or 0
+abbrev pub laterTests : Call → List ℕ → ℕ
+laterTests (cycle axis i) p = cycleTests i
+laterTests (frame farm f m) p = frameTests farm f (length m) p
+
+abbrev pub tableNumber : Call → List ℕ → ℕ
+tableNumber c s =
+    let k = owner c in
+    cond (not (leb 1 k && leb k farms)) 1
+    (cond (not (eqb (length s) stationSize) || not (wellFormed k (partOf k s))) 2
+    (laterTests c (partOf k s)))
+
+-- every call is numbered by the table, wherever its number is decided: 1 and the size of 2 before any part is looked at (`refusal`),
+abbrev pub NumberedByTable : Type 0
+NumberedByTable = (c : Call) (s : List ℕ) → numberIn (answer kinds c s) ≡ tableNumber c s
+
+-- and 10 and 11 where the block is worked (`outcomeOf`)
+abbrev pub BlockNumbered : Type 0
+BlockNumbered =
+    (k : ℕ) (s p : List ℕ)
+    → outcomeOf k s p .number ≡ cond (not (readable blockLimit request s)) 10 (cond (not (eqb (headerOf s .axis) k)) 11 0)
 
 -- "a refused cycle answers its number and zeros"; a refused frame puts its reply, and "0 elements are stored"
 abbrev pub refusedBy : Call → ℕ → Answer
