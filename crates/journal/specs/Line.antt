@@ -24,6 +24,10 @@ frameRecord = 247
 abbrev pub recordLength : ℕ → ℕ
 recordLength kind = cond (eqb kind 1) cycleRecord (cond (eqb kind 2) frameRecord 1)
 
+-- the longest of them
+abbrev pub longestRecord : ℕ
+longestRecord = frameRecord
+
 abbrev pub cycleCall : List ℕ → Call
 cycleCall r =
     cycle (getD r 1 0)

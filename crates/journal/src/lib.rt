@@ -12,10 +12,8 @@ mod line; // line.rt: the lines
 mod record; // record.rt: which bytes are a record
 mod text; // text.rt: numbers as text, at a place of a line
 
+pub use record::longest_record;
 pub use record::record_length;
-
-// The longest record, with its kind byte.
-pub const RECORD: usize = 247;
 
 // Room for any line: `f`, two numbers of at most ten digits, three spaces, 244 bytes in hex, and the line's end.
 pub const LINE: usize = 513;

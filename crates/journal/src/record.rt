@@ -3,7 +3,7 @@ ghost use mathlib.Core.Path.{_≡_};
 ghost use Prim.Native.Nat.{_≤_};
 ghost use lib.ListN.{drop};
 ghost use Rattle.drive.specs.Faults.{zeros};
-ghost use Rattle.journal.specs.Line.{recordLength, isCycle, isFrame};
+ghost use Rattle.journal.specs.Line.{recordLength, longestRecord, isCycle, isFrame};
 
 // Records, with their kind byte, and what of a frame's stands before the frame.
 const CYCLE: usize = 11;
@@ -18,13 +18,20 @@ pub(crate) const FRAME_ROOM: usize = 244;
 // How long a record is, by its kind byte; anything else ends with that byte.
 pub fn record_length(kind: u8) -> usize
     ensures { λ r. ⌜ r ≡ recordLength kind ⌝ }
-    ensures { λ r. ⌜ (1 ≤ r) × (r ≤ 247) ⌝ }
+    ensures { λ r. ⌜ (1 ≤ r) × (r ≤ longestRecord) ⌝ }
 {
     match kind {
         1 => CYCLE,
         2 => FRAME,
         _ => 1,
     }
+}
+
+// Bytes of the longest record, with its kind byte: so many are enough to hold the next one.
+pub fn longest_record() -> usize
+    ensures { λ r. ⌜ r ≡ longestRecord ⌝ }
+{
+    FRAME
 }
 
 pub(crate) fn is_cycle(bytes: &[u8]) -> bool

@@ -64,7 +64,7 @@ fn is_short(open: bool, start: usize, end: usize) -> bool
     requires { ⌜ start ≤ end ⌝ }
 {
     if open {
-        end - start < journal::RECORD
+        end - start < journal::longest_record()
     } else {
         false
     }
@@ -78,7 +78,7 @@ fn fill(fd: i32, path: &[u8], input: &mut [u8], w: Window) -> Window
     let mut start = w.start;
     let mut end = w.end;
     let mut open = w.open;
-    let mut reads = journal::RECORD;
+    let mut reads = journal::longest_record();
     while reads > 0 && is_short(open, start, end) {
         let v = read_more(fd, path, input, start, end);
         start = v.start;

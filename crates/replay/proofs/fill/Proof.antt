@@ -12,6 +12,9 @@ Inv-loop fd path input₀ start₀ end₀ open₀ reads₀ input start end «ope
 abbrev μ-loop : tie.MeasureT-loop
 μ-loop fd path input₀ start₀ end₀ open₀ reads₀ input start end «open» reads = reads
 
+longest-record-requires : tie.Need-longest-record-requires Inv-loop μ-loop
+longest-record-requires c κs = search needs
+
 loop-holds : tie.Need-loop-holds Inv-loop μ-loop
 loop-holds c = search needs
 
@@ -48,6 +51,7 @@ fill-spec =
     (tie.spec
     Inv-loop
     μ-loop
+    longest-record-requires
     loop-holds
     is-short-requires
     read-more-requires
