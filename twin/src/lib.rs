@@ -1,4 +1,4 @@
-//! An independent twin of the station of document 01 (`01-scope.md`), read with `READINGS.md`.
+//! An independent twin of the station of document 01 (`01-scope.md`), as `docs/DECISIONS.md` reads it.
 //!
 //! It exists to be compared with another implementation, so it is plain: every rule of the paper stands in one
 //! small function, and every field is public for a harness to set and compare.
