@@ -1,4 +1,4 @@
--- Document 01, "For a change then: ..": a change (02) worked on a part, element by element.
+-- Document 01, "For a change then": a change (02) worked on a part, element by element.
 use mathlib.Core.Bool.{cond, not, _||_}
 use mathlib.Core.List.{List, [], _∷_}
 use Prim.Native.Nat.{ℕ, _+_}
@@ -30,7 +30,8 @@ abbrev pub storeFrom : Row → ℕ → List ℕ → List ℕ → Changed
 storeFrom r i [] p = record { block = emptyBlock; part = p; stored = 0 }
 storeFrom r i (x ∷ xs) p = cond (inside r x) (oneMore (storeFrom r (i + 1) xs (putElement r i x p))) (failure 0x02 p)
 
--- "not writable 0x01; format neither the size code nor the type code of the parameter 0x05; number of values not the elements 0x18"
+-- "not writable 0x01; format neither the size code nor the type code of the parameter (U8 5, I16 3, U16 6, I32 4) 0x05; number of
+-- values not the elements 0x18"
 abbrev pub ofElements : Address → Block → List ℕ → Row → ℕ → Changed
 ofElements a b p r n =
     cond (not (r .writable)) (failure 0x01 p)

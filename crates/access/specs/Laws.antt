@@ -26,7 +26,7 @@ use Rattle.access.specs.Read.{readBlocks}
 use Rattle.access.specs.Change.{Changed, changeOne, changeAll}
 use Rattle.access.specs.Work.{worked, outcomeOf}
 
--- "Header: the same reference, .. axis, N"
+-- "Header: the same reference (1..255), 01/02 or 81/82, axis, N (1..39)."
 pub record SameHeader (r : Request) (a : Response) : Type 0 where
   pub reference : a .reference ≡ r .reference
   pub axis : a .axis ≡ r .axis
@@ -142,7 +142,7 @@ StoredIsThere =
 abbrev pub AnsweredIsStored : Type 0
 AnsweredIsStored = (a : Address) (b : Block) (p : List ℕ) → isError (changeOne a b p .block) ≡ false → changeOne a b p .stored ≡ length (b .values)
 
--- "A part is well-formed exactly when ..": it stays so when a request is worked on it
+-- a part that is well-formed stays so when a request is worked on it
 abbrev pub RequestKeepsWellFormed : Type 0
 RequestKeepsWellFormed =
     (axis : ℕ) (r : Request) (p : List ℕ) → RequestFits r → wellFormed axis p ≡ true → wellFormed axis (worked r p .part) ≡ true

@@ -18,7 +18,7 @@ pub record Worked : Type 0 where
   pub part : List ℕ
   pub stored : ℕ
 
--- "Header: the same reference, 01/02 or 81/82, axis, N"
+-- "Header: the same reference (1..255), 01/02 or 81/82, axis, N (1..39)."
 abbrev pub answerOf : Request → ℕ → List Block → Response
 answerOf r id bs =
     record { reference = r .reference; identifier = id; axis = r .axis; count = length (r .addresses); blocks = bs }
@@ -49,14 +49,14 @@ pub record Outcome : Type 0 where
   pub stored : ℕ
   pub part : List ℕ
 
--- "11: block's axis isn't the caller's"; else "the response then waits"
+-- number 11, "block's axis isn't the caller's"; else "the response then waits"
 abbrev pub taken : ℕ → List ℕ → Request → Outcome
 taken axis p r =
     cond (eqb (r .axis) axis)
     (record { number = 0; stored = worked r p .stored; part = withResponse (response .write (worked r p .response)) (worked r p .part) })
     (record { number = 11; stored = 0; part = p })
 
--- "10: block not readable"
+-- number 10, "block not readable"
 abbrev pub takenIf : ℕ → List ℕ → Bool → Got Request → Outcome
 takenIf axis p fits (got r t) = cond fits (taken axis p r) (record { number = 10; stored = 0; part = p })
 takenIf axis p fits bad = record { number = 10; stored = 0; part = p }

@@ -115,7 +115,7 @@ unfoldable pub stateAfter : Bool → State → Word → Bool → State
 stateAfter faulted s b t = cond faulted S1 (nextOf s b t)
 
 -- Step 5. "Effective setpoint: 0 unless the new state is S4 and b4=b6=1; else, with b5=0, the effective setpoint of the last
--- accepted cycle; else NSOLL_A", which is the setpoint used.
+-- accepted cycle (fresh 0); else NSOLL_A." That is the setpoint used.
 abbrev pub isS4 : State → Bool
 isS4 S1 = false
 isS4 S2 = false

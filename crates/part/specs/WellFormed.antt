@@ -1,4 +1,4 @@
--- Document 01, "A part is well-formed exactly when ..": one definition for each part of the rule, in its order. The part on fault
+-- Document 01, "A part is well-formed exactly when": one definition for each part of the rule, in its order. The part on fault
 -- situations, "no code stands after a 0 or twice", is `properFaults` in drive's `Faults`. "Its other fields may hold anything of their
 -- type": nothing else is asked.
 use mathlib.Core.Bool.{Bool, true, cond, _&&_, _||_}

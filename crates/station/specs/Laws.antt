@@ -86,7 +86,7 @@ EmptyReply =
     (k : ℕ) (f m s : List ℕ) (n : ℕ) → numberIn (answer kinds (frame k f m) s) ≡ n → 1 ≤ n → n ≤ 4
     → answer kinds (frame k f m) s ≡ toFrame (record { length = 0; stored = 0; number = n }) m
 
--- a reply stands at the start of the reply memory, whole. "Bytes past the reply .. stay unchanged"
+-- a reply stands at the start of the reply memory, whole, and the bytes past it stay unchanged
 abbrev pub ReplyStands : Type 0
 ReplyStands =
     (k : ℕ) (f m p : List ℕ)

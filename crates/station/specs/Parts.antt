@@ -28,7 +28,7 @@ partOf k s = window ((k - 1) * partSize) partSize s
 abbrev pub withPart : ℕ → List ℕ → List ℕ → List ℕ
 withPart k ys s = withWindow ((k - 1) * partSize) partSize ys s
 
--- "1: farm or axis not 1..16"; "2: station memory of wrong size"; else 0
+-- number 1, "farm or axis not 1..16", and number 2, "station memory of wrong size"; else 0
 unfoldable pub refusal : ℕ → ℕ → ℕ
 refusal k size =
     cond (not (leb 1 k && leb k farms)) 1
@@ -40,7 +40,7 @@ abbrev pub freshParts : ℕ → List ℕ
 freshParts zero = []
 freshParts (suc n) = freshPart ++ freshParts n
 
--- "A fresh station is made by a call of its own, which .. refuses only a wrong size (number 2, nothing changed)."
+-- "A fresh station is made by a call of its own, which belongs to no farm and refuses only a wrong size (number 2, nothing changed)."
 unfoldable pub freshNumber : List ℕ → ℕ
 freshNumber s = cond (eqb (length s) stationSize) 0 2
 
