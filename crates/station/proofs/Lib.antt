@@ -13,3 +13,4 @@ pub mod Stays
 pub mod Worked
 pub mod Sends
 pub mod Exchange
+pub mod Instances
