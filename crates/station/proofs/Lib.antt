@@ -1,5 +1,5 @@
 pub mod Answers
-pub mod Fresh
+pub mod FreshParts
 pub mod Cycles
 pub mod Outcome
 pub mod Judged

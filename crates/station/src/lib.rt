@@ -4,8 +4,8 @@ ghost use Rattle.station.specs.Parts.{stationSize, refusal, freshNumber,
 ghost use Rattle.station.specs.Isolation.{answer, after};
 ghost use Rattle.station.specs.Calls.{kinds, cycle, frame, toCycle, toFrame};
 
-mod cycle; // cycle.rt: a control cycle on the part of its axis
-mod frame; // frame.rt: a frame on the part of its farm
+mod part_cycle; // part_cycle.rt: a control cycle on the part of its axis
+mod part_frame; // part_frame.rt: a frame on the part of its farm
 mod judge; // judge.rt: the tests 2 to 9 of a frame
 mod reply; // reply.rt: what is written in the reply memory
 
@@ -90,11 +90,11 @@ pub extern "C" fn llinkhiro_cycle(
 {
     let n = refused(axis, station.len());
     if n != 0 {
-        return cycle::refused_cycle(n);
+        return part_cycle::refused_cycle(n);
     }
     let a = (axis as usize - 1) * part::SIZE;
     let e = a + part::SIZE;
-    cycle::cycle_on(
+    part_cycle::cycle_on(
         &mut station[a..e],
         axis as u8,
         flags,
@@ -122,5 +122,5 @@ pub extern "C" fn llinkhiro_frame(
     }
     let a = (farm as usize - 1) * part::SIZE;
     let e = a + part::SIZE;
-    frame::frame_on(&mut station[a..e], farm as u8, f, reply)
+    part_frame::frame_on(&mut station[a..e], farm as u8, f, reply)
 }

@@ -8,7 +8,7 @@ use borrow.Author.Tests.{eq-eqb, ne-eqb}
 use Rattle.catalogue.specs.Table.{rows, parameterBytes}
 use Rattle.part.specs.Layout.{partSize}
 use Rattle.station.specs.Parts.{farms, stationSize, freshParts, freshNumber, freshStation}
-use Rattle.station.proofs.Fresh.{made, length-kept, next-part, all-made}
+use Rattle.station.proofs.FreshParts.{made, length-kept, next-part, all-made}
 use borrow.Author.Needs.{needs}
 use Rattle.station.proofs.llinkhiro_fresh.Statement.{statement}
 use Rattle.station.proofs.llinkhiro_fresh.Tie as tie

@@ -3,8 +3,8 @@ use Rattle.catalogue.specs.Table.{rows, findOf, offsetOf}
 use mir.Syntax.{w16}
 use mir.ValLaws.{toZ-ofZ}
 use borrow.Author.Needs.{needs}
-use Rattle.station.proofs.cycle.input_of.Statement.{statement}
-use Rattle.station.proofs.cycle.input_of.Tie as tie
+use Rattle.station.proofs.part_cycle.input_of.Statement.{statement}
+use Rattle.station.proofs.part_cycle.input_of.Tie as tie
 
 cast-word-at : tie.Need-cast-word-at
 cast-word-at c = search needs

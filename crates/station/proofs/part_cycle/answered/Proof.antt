@@ -3,8 +3,8 @@ use mir.Syntax.{w32}
 use mir.Val.{SFits}
 use mir.ValLaws.{toZ-ofZ}
 use borrow.Author.Needs.{needs}
-use Rattle.station.proofs.cycle.answered.Statement.{statement}
-use Rattle.station.proofs.cycle.answered.Tie as tie
+use Rattle.station.proofs.part_cycle.answered.Statement.{statement}
+use Rattle.station.proofs.part_cycle.answered.Tie as tie
 
 number-of-requires : tie.Need-number-of-requires
 number-of-requires c κs = search needs

@@ -10,8 +10,8 @@ use borrow.Author.Tests.{not-true, not-false}
 use denote.Ref.{now}
 use Rattle.station.proofs.Cycles.{unformed, flagged, cycles}
 use borrow.Author.Needs.{needs}
-use Rattle.station.proofs.cycle.cycle_on.Statement.{statement}
-use Rattle.station.proofs.cycle.cycle_on.Tie as tie
+use Rattle.station.proofs.part_cycle.cycle_on.Statement.{statement}
+use Rattle.station.proofs.part_cycle.cycle_on.Tie as tie
 
 well-formed-requires : tie.Need-well-formed-requires
 well-formed-requires c κs = search needs

@@ -6,8 +6,8 @@ use native.Mathlib.Omega.{arith}
 use Rattle.catalogue.specs.Table.{rows, parameterBytes}
 use Rattle.station.proofs.Frames.{handed}
 use borrow.Author.Needs.{needs}
-use Rattle.station.proofs.frame.read_on.Statement.{statement}
-use Rattle.station.proofs.frame.read_on.Tie as tie
+use Rattle.station.proofs.part_frame.read_on.Statement.{statement}
+use Rattle.station.proofs.part_frame.read_on.Tie as tie
 
 waiting-length-requires : tie.Need-waiting-length-requires
 waiting-length-requires c κs = search needs

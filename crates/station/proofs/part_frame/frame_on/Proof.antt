@@ -6,8 +6,8 @@ use borrow.Author.Tests.{eq-eqb, ne-eqb}
 use Rattle.station.proofs.Judged.{refused-early, passes}
 use Rattle.station.proofs.Frames.{formed, refused-frame, written-frame, fetched-frame}
 use borrow.Author.Needs.{needs}
-use Rattle.station.proofs.frame.frame_on.Statement.{statement}
-use Rattle.station.proofs.frame.frame_on.Tie as tie
+use Rattle.station.proofs.part_frame.frame_on.Statement.{statement}
+use Rattle.station.proofs.part_frame.frame_on.Tie as tie
 
 judge-requires : tie.Need-judge-requires
 judge-requires c κs = search needs

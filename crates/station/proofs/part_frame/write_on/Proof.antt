@@ -3,8 +3,8 @@ use mathlib.Core.Path.{sym, _∙_}
 use denote.Ref.{now}
 use Rattle.station.proofs.Frames.{rest-of, block-refused, block-worked}
 use borrow.Author.Needs.{needs}
-use Rattle.station.proofs.frame.write_on.Statement.{statement}
-use Rattle.station.proofs.frame.write_on.Tie as tie
+use Rattle.station.proofs.part_frame.write_on.Statement.{statement}
+use Rattle.station.proofs.part_frame.write_on.Tie as tie
 
 sub-work : tie.Need-sub-work
 sub-work c = search needs
