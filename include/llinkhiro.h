@@ -2,7 +2,7 @@
  * Llinkhiro: the logic of a PROFIdrive 4.1 station with 16 axes. Farm k owns axis k.
  *
  * Two things are done with a station: a control cycle for one axis (llinkhiro_cycle) and a DP-V1 frame from one farm
- * (llinkhiro_frame). A third call makes it (llinkhiro_fresh). Link with libstation.a.
+ * (llinkhiro_frame). A third call makes it (llinkhiro_fresh). #include <llinkhiro.h>, and link with -lllinkhiro.
  *
  * MEMORY
  *

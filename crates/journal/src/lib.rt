@@ -36,7 +36,7 @@ fn play_cycle(station: &mut [u8], bytes: &[u8], line: &mut [u8]) -> usize
     let nsoll = codes::signed16(codes::word_at(bytes, 5));
     let nist = codes::signed16(codes::word_at(bytes, 7));
     let fault = codes::word_at(bytes, 9);
-    let c = station::llinkhiro_cycle(
+    let c = station::cycle(
         station,
         axis as u32,
         bytes[2] as u32,
@@ -59,7 +59,7 @@ fn play_frame(station: &mut [u8], bytes: &[u8], line: &mut [u8]) -> usize
     let farm = bytes[1];
     let end = record::FRAME_HEAD + codes::wide(bytes[2]);
     let mut reply = [0u8; record::FRAME_ROOM];
-    let f = station::llinkhiro_frame(
+    let f = station::frame(
         station,
         farm as u32,
         &bytes[record::FRAME_HEAD..end],

@@ -304,7 +304,7 @@ fn play_all(station: &mut [u8], input: &mut [u8], out: &mut [u8; OUT]) -> usize
 
 fn main() {
     let mut memory = [0u8; station::STATION];
-    station::llinkhiro_fresh(&mut memory);
+    station::fresh(&mut memory);
     let mut input = io::large_buffer();
     let mut out = [0u8; OUT];
     let used = play_all(&mut memory, &mut input, &mut out);

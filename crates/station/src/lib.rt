@@ -1,4 +1,4 @@
-// The station: 16 parts in memory that the caller lends, and the calls that a host makes on them.
+// The station: 16 parts in memory that the caller lends, and the calls on them.
 ghost use mathlib.Core.Path.{_≡_};
 ghost use Rattle.station.specs.Parts.{stationSize, refusal, freshNumber, freshStation};
 ghost use Rattle.station.specs.Isolation.{answer, after};
@@ -9,7 +9,7 @@ mod part_frame; // part_frame.rt: a frame on the part of its farm
 mod judge; // judge.rt: the tests 2 to 9 of a frame
 mod reply; // reply.rt: what is written in the reply memory
 
-// What a cycle answers.
+// What a cycle answers. This and the next are laid out as in C, since exported calls hand them on.
 #[repr(C)]
 pub struct Cycled {
     pub rpm: i32,
@@ -32,8 +32,7 @@ const FARMS: usize = 16;
 // Bytes of a station's memory.
 pub const STATION: usize = FARMS * part::SIZE;
 
-#[no_mangle]
-pub extern "C" fn llinkhiro_size() -> usize
+pub fn size() -> usize
     ensures { λ r. ⌜ r ≡ stationSize ⌝ }
 {
     STATION
@@ -56,8 +55,7 @@ fn refused(k: u32, size: usize) -> u8
 }
 
 // Makes a fresh station.
-#[no_mangle]
-pub extern "C" fn llinkhiro_fresh(station: &mut [u8]) -> u8
+pub fn fresh(station: &mut [u8]) -> u8
     ensures { λ r. ⌜ r ≡ freshNumber (now (station .entry)) ⌝ }
     ensures { λ r. ⌜ now (station .exit) ≡ freshStation (now (station .entry)) ⌝ }
 {
@@ -75,8 +73,7 @@ pub extern "C" fn llinkhiro_fresh(station: &mut [u8]) -> u8
 }
 
 // A control cycle of an axis.
-#[no_mangle]
-pub extern "C" fn llinkhiro_cycle(
+pub fn cycle(
     station: &mut [u8],
     axis: u32,
     flags: u32,
@@ -106,13 +103,7 @@ pub extern "C" fn llinkhiro_cycle(
 }
 
 // A frame of a farm, answered in the reply memory.
-#[no_mangle]
-pub extern "C" fn llinkhiro_frame(
-    station: &mut [u8],
-    farm: u32,
-    f: &[u8],
-    reply: &mut [u8],
-) -> Framed
+pub fn frame(station: &mut [u8], farm: u32, f: &[u8], reply: &mut [u8]) -> Framed
     ensures { λ r. ⌜ toFrame r (now (reply .exit)) ≡ answer kinds (frame farm (now (f .entry)) (now (reply .entry))) (now (station .entry)) ⌝ }
     ensures { λ r. ⌜ now (station .exit) ≡ after kinds (frame farm (now (f .entry)) (now (reply .entry))) (now (station .entry)) ⌝ }
 {

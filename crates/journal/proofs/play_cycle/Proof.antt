@@ -36,17 +36,17 @@ signed16-requires-2 c κs = search needs
 word-at-requires-4 : tie.Need-word-at-requires-4
 word-at-requires-4 c κs = search needs
 
-cast-llinkhiro-cycle : tie.Need-cast-llinkhiro-cycle
-cast-llinkhiro-cycle c = omega (arith, c .before .before .before .before .before .before .before .shared-slice-known2 .given 1)
+cast-cycle : tie.Need-cast-cycle
+cast-cycle c = omega (arith, c .before .before .before .before .before .before .before .shared-slice-known2 .given 1)
 
-shared-slice-read-llinkhiro-cycle : tie.Need-shared-slice-read-llinkhiro-cycle
-shared-slice-read-llinkhiro-cycle c = search needs
+shared-slice-read-cycle : tie.Need-shared-slice-read-cycle
+shared-slice-read-cycle c = search needs
 
-cast-llinkhiro-cycle-2 : tie.Need-cast-llinkhiro-cycle-2
-cast-llinkhiro-cycle-2 c = omega (arith, c .shared-slice-known3 .given 2)
+cast-cycle-2 : tie.Need-cast-cycle-2
+cast-cycle-2 c = omega (arith, c .shared-slice-known3 .given 2)
 
-llinkhiro-cycle-requires : tie.Need-llinkhiro-cycle-requires
-llinkhiro-cycle-requires c κs = search needs
+cycle-requires : tie.Need-cycle-requires
+cycle-requires c κs = search needs
 
 put-cycle-requires : tie.Need-put-cycle-requires
 put-cycle-requires c κs = search needs
@@ -66,13 +66,13 @@ returns c =
     let text = newline .before .before .before .before in
     let called = text .before .before .before .before in
     let a = c .before .before .before .before .before .before .before .before .before .before .before .before .before .before .before .before .before .before .before .before .before .before .before .args in
-    let told = called .llinkhiro-cycle .ensures in
+    let told = called .cycle .ensures in
     let nsoll = toZ-ofZ w16 _ (record { sfits = called .before .before .before .before .before .before .signed16 .ok }) ∙ (called .before .before .before .before .before .before .signed16 .ensures ∙ ap (signedOf 2) (called .before .before .before .before .before .before .before .word-at2 .ensures)) in
     let nist = toZ-ofZ w16 _ (record { sfits = called .before .before .before .before .signed162 .ok }) ∙ (called .before .before .before .before .signed162 .ensures ∙ ap (signedOf 2) (called .before .before .before .before .before .word-at3 .ensures)) in
     let call = cycle-call (now (a .bytes)) _ _ _ _ (called .before .before .before .before .before .before .before .before .word-at .ensures) nsoll nist (called .before .before .before .word-at4 .ensures) in
     let answered = told .0 ∙ ap (λ (k : Call). answer kinds k (now (a .station))) call in
     let room : newline .put-byte .result ≤ length (now (a .line)) = omega (arith, newline .put-byte .ensures .1, text .put-cycle .ensures .1 .1, called .before .before .before .before .before .before .before .before .before .before .before .before .before .pre) in
-    let w = promised-first {k = 513} (said (and-then (wrote-first (text .put-cycle .ensures)) (char (newline .put-byte .ensures)) room) (cycle-written (now (a .bytes)) (now (a .station)) (called .llinkhiro-cycle .result) answered)) (omega (arith, newline .put-byte .ensures .1, text .put-cycle .ensures .1 .1)) in
+    let w = promised-first {k = 513} (said (and-then (wrote-first (text .put-cycle .ensures)) (char (newline .put-byte .ensures)) room) (cycle-written (now (a .bytes)) (now (a .station)) (called .cycle .result) answered)) (omega (arith, newline .put-byte .ensures .1, text .put-cycle .ensures .1 .1)) in
     (w .0, (w .1, told .1 ∙ ap (λ (k : Call). after kinds k (now (a .station))) call))
 
 pub play-cycle-spec : {M : Type 1} → statement M
@@ -86,10 +86,10 @@ play-cycle-spec =
     word-at-requires-3
     signed16-requires-2
     word-at-requires-4
-    cast-llinkhiro-cycle
-    shared-slice-read-llinkhiro-cycle
-    cast-llinkhiro-cycle-2
-    llinkhiro-cycle-requires
+    cast-cycle
+    shared-slice-read-cycle
+    cast-cycle-2
+    cycle-requires
     put-cycle-requires
     put-byte-requires
     same-length

@@ -24,23 +24,23 @@ wide-requires c κs = search needs
 add-end : tie.Need-add-end
 add-end c = search needs
 
-cast-llinkhiro-frame : tie.Need-cast-llinkhiro-frame
-cast-llinkhiro-frame c = omega (arith, c .before .before .before .shared-slice-known2 .given 1)
+cast-frame : tie.Need-cast-frame
+cast-frame c = omega (arith, c .before .before .before .shared-slice-known2 .given 1)
 
-sub-llinkhiro-frame : tie.Need-sub-llinkhiro-frame
-sub-llinkhiro-frame c = search needs
+sub-frame : tie.Need-sub-frame
+sub-frame c = search needs
 
-part-llinkhiro-frame-start : tie.Need-part-llinkhiro-frame-start
-part-llinkhiro-frame-start c = search needs
+part-frame-start : tie.Need-part-frame-start
+part-frame-start c = search needs
 
-part-llinkhiro-frame-end : tie.Need-part-llinkhiro-frame-end
-part-llinkhiro-frame-end c = search needs
+part-frame-end : tie.Need-part-frame-end
+part-frame-end c = search needs
 
-slice-aggregate-llinkhiro-frame : tie.Need-slice-aggregate-llinkhiro-frame
-slice-aggregate-llinkhiro-frame c = search needs
+slice-aggregate-frame : tie.Need-slice-aggregate-frame
+slice-aggregate-frame c = search needs
 
-llinkhiro-frame-requires : tie.Need-llinkhiro-frame-requires
-llinkhiro-frame-requires c κs = search needs
+frame-requires : tie.Need-frame-requires
+frame-requires c κs = search needs
 
 slice-aggregate-put-frame : tie.Need-slice-aggregate-put-frame
 slice-aggregate-put-frame c = search needs
@@ -49,7 +49,7 @@ put-frame-requires : tie.Need-put-frame-requires
 put-frame-requires c κs =
     let called = c .before .before .before .before .before in
     let a = c .before .before .before .before .before .before .before .before .before .before .before .before .before .before .before .args in
-    (reply-short _ _ _ _ _ _ (called .llinkhiro-frame .ensures .0), (called .llinkhiro-frame .kept .1 .1 .1 .0, omega arith))
+    (reply-short _ _ _ _ _ _ (called .frame .ensures .0), (called .frame .kept .1 .1 .1 .0, omega arith))
 
 put-byte-requires : tie.Need-put-byte-requires
 put-byte-requires c κs = search needs
@@ -66,13 +66,13 @@ returns c =
     let text = newline .before .before .before .before in
     let called = text .before .before .before .before .before .before in
     let a = c .before .before .before .before .before .before .before .before .before .before .before .before .before .before .before .before .before .before .before .before .before .before .args in
-    let told = called .llinkhiro-frame .ensures in
+    let told = called .frame .ensures in
     let size = called .before .before .before .before .wide in
     let long : 3 + size .result - 3 ≡ getD (now (a .bytes)) 2 0 = omega (arith, size .ensures) in
     let call = frame-call (now (a .bytes)) (3 + size .result - 3) long in
     let answered = told .0 ∙ ap (λ (k : Call). answer kinds k (now (a .station))) call in
     let room : newline .put-byte .result ≤ length (now (a .line)) = omega (arith, newline .put-byte .ensures .1, text .put-frame .ensures .1 .1, called .before .before .before .before .before .before .before .before .before .before .pre) in
-    let w = promised-first {k = 513} (said (and-then (wrote-first (text .put-frame .ensures)) (char (newline .put-byte .ensures)) room) (frame-written (now (a .bytes)) (now (a .station)) (called .llinkhiro-frame .result) (called .llinkhiro-frame .last .1 .1 .1 .0) answered)) (omega (arith, newline .put-byte .ensures .1, text .put-frame .ensures .1 .1)) in
+    let w = promised-first {k = 513} (said (and-then (wrote-first (text .put-frame .ensures)) (char (newline .put-byte .ensures)) room) (frame-written (now (a .bytes)) (now (a .station)) (called .frame .result) (called .frame .last .1 .1 .1 .0) answered)) (omega (arith, newline .put-byte .ensures .1, text .put-frame .ensures .1 .1)) in
     (w .0, (w .1, told .1 ∙ ap (λ (k : Call). after kinds k (now (a .station))) call))
 
 pub play-frame-spec : {M : Type 1} → statement M
@@ -83,12 +83,12 @@ play-frame-spec =
     shared-slice-read-wide
     wide-requires
     add-end
-    cast-llinkhiro-frame
-    sub-llinkhiro-frame
-    part-llinkhiro-frame-start
-    part-llinkhiro-frame-end
-    slice-aggregate-llinkhiro-frame
-    llinkhiro-frame-requires
+    cast-frame
+    sub-frame
+    part-frame-start
+    part-frame-end
+    slice-aggregate-frame
+    frame-requires
     slice-aggregate-put-frame
     put-frame-requires
     put-byte-requires

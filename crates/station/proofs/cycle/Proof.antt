@@ -9,8 +9,8 @@ use Rattle.station.proofs.Answers.{takes, refuses, does, lent}
 use mir.Syntax.{w16}
 use mir.ValLaws.{toZ-ofZ}
 use borrow.Author.Needs.{needs}
-use Rattle.station.proofs.llinkhiro_cycle.Statement.{statement}
-use Rattle.station.proofs.llinkhiro_cycle.Tie as tie
+use Rattle.station.proofs.cycle.Statement.{statement}
+use Rattle.station.proofs.cycle.Tie as tie
 
 refused-requires : tie.Need-refused-requires
 refused-requires c κs = search needs
@@ -70,8 +70,8 @@ returns-2 c =
     let e = rw (toZ-ofZ w16 (a .nsoll) (h .nsoll), toZ-ofZ w16 (a .nist) (h .nist), lent (a .axis) s) at (c .before .before .cycle-on .ensures) in
     does kinds (cycle (a .axis) (record { flags = a .flags; stw1 = a .stw1; nsoll = a .nsoll; nist = a .nist; fault = a .fault })) s (toCycle (c .before .before .cycle-on .result)) (c .before .before .cycle-on .last .0) (sym (c .before .before .before .before .if1 .left) ∙ c .before .before .before .before .before .refused .ensures) (ap toCycle (e .0)) (e .1)
 
-pub llinkhiro-cycle-spec : {M : Type 1} → statement M
-llinkhiro-cycle-spec =
+pub cycle-spec : {M : Type 1} → statement M
+cycle-spec =
     tie.close
     (tie.spec
     refused-requires

@@ -7,8 +7,8 @@ use Rattle.catalogue.specs.Table.{rows, parameterBytes}
 use Rattle.station.specs.Calls.{kinds, frame, toFrame}
 use Rattle.station.proofs.Answers.{takes, refuses, does, lent}
 use borrow.Author.Needs.{needs}
-use Rattle.station.proofs.llinkhiro_frame.Statement.{statement}
-use Rattle.station.proofs.llinkhiro_frame.Tie as tie
+use Rattle.station.proofs.frame.Statement.{statement}
+use Rattle.station.proofs.frame.Tie as tie
 
 refused-requires : tie.Need-refused-requires
 refused-requires c κs = search needs
@@ -70,8 +70,8 @@ returns-2 c =
     let e = rw (lent (a .farm) s) at (c .before .before .before .before .frame-on .ensures) in
     does kinds (frame (a .farm) (now (a .f)) (now (a .reply))) s (toFrame (c .before .before .before .before .frame-on .result) (c .before .before .before .before .frame-on .last .1 .1 .1 .0)) (c .before .before .before .before .frame-on .last .0) (sym (c .before .before .before .before .before .before .before .if1 .left) ∙ c .before .before .before .before .before .before .before .before .refused .ensures) (ap₂ toFrame (e .0) (e .1 .0)) (e .1 .1)
 
-pub llinkhiro-frame-spec : {M : Type 1} → statement M
-llinkhiro-frame-spec =
+pub frame-spec : {M : Type 1} → statement M
+frame-spec =
     tie.close
     (tie.spec
     refused-requires

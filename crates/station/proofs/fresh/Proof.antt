@@ -10,8 +10,8 @@ use Rattle.part.specs.Layout.{partSize}
 use Rattle.station.specs.Parts.{farms, stationSize, freshParts, freshNumber, freshStation}
 use Rattle.station.proofs.FreshParts.{made, length-kept, next-part, all-made}
 use borrow.Author.Needs.{needs}
-use Rattle.station.proofs.llinkhiro_fresh.Statement.{statement}
-use Rattle.station.proofs.llinkhiro_fresh.Tie as tie
+use Rattle.station.proofs.fresh.Statement.{statement}
+use Rattle.station.proofs.fresh.Tie as tie
 
 abbrev Inv-loop : tie.InvT-loop
 Inv-loop station₀ i₀ station i = (i ≤ farms) × (length station ≡ length station₀) × (take (i * partSize) station ≡ freshParts i)
@@ -76,8 +76,8 @@ returns-2 c =
     let e : l .i ≡ farms = omega arith in
     rw (eq-eqb _ _ n) (refl, all-made (l .station) (l .inv .1 ∙ n) (rw e at (l .inv .2)))
 
-pub llinkhiro-fresh-spec : {M : Type 1} → statement M
-llinkhiro-fresh-spec =
+pub fresh-spec : {M : Type 1} → statement M
+fresh-spec =
     tie.close
     (tie.spec
     Inv-loop

@@ -1,0 +1,55 @@
+// The calls of a host, exported as one library: each is one call of a crate below, and promises the same. No other crate exports.
+ghost use mathlib.Core.Path.{_≡_};
+ghost use Rattle.station.specs.Parts.{stationSize, freshNumber, freshStation};
+ghost use Rattle.station.specs.Isolation.{answer, after};
+ghost use Rattle.station.specs.Calls.{kinds, cycle, frame, toCycle, toFrame};
+use station::Cycled;
+use station::Framed;
+
+// Bytes of a station's memory.
+#[no_mangle]
+pub extern "C" fn llinkhiro_size() -> usize
+    ensures { λ r. ⌜ r ≡ stationSize ⌝ }
+{
+    station::size()
+}
+
+// Makes a fresh station.
+#[no_mangle]
+pub extern "C" fn llinkhiro_fresh(station: &mut [u8]) -> u8
+    ensures { λ r. ⌜ r ≡ freshNumber (now (station .entry)) ⌝ }
+    ensures { λ r. ⌜ now (station .exit) ≡ freshStation (now (station .entry)) ⌝ }
+{
+    station::fresh(station)
+}
+
+// A control cycle of an axis.
+#[no_mangle]
+pub extern "C" fn llinkhiro_cycle(
+    station: &mut [u8],
+    axis: u32,
+    flags: u32,
+    stw1: u16,
+    nsoll: i16,
+    nist: i16,
+    fault: u16,
+) -> Cycled
+    ensures { λ r. ⌜ toCycle r ≡ answer kinds (cycle axis (record { flags = flags; stw1 = stw1; nsoll = nsoll; nist = nist; fault = fault })) (now (station .entry)) ⌝ }
+    ensures { λ r. ⌜ now (station .exit) ≡ after kinds (cycle axis (record { flags = flags; stw1 = stw1; nsoll = nsoll; nist = nist; fault = fault })) (now (station .entry)) ⌝ }
+{
+    station::cycle(station, axis, flags, stw1, nsoll, nist, fault)
+}
+
+// A frame of a farm, answered in the reply memory.
+#[no_mangle]
+pub extern "C" fn llinkhiro_frame(
+    station: &mut [u8],
+    farm: u32,
+    f: &[u8],
+    reply: &mut [u8],
+) -> Framed
+    ensures { λ r. ⌜ toFrame r (now (reply .exit)) ≡ answer kinds (frame farm (now (f .entry)) (now (reply .entry))) (now (station .entry)) ⌝ }
+    ensures { λ r. ⌜ now (station .exit) ≡ after kinds (frame farm (now (f .entry)) (now (reply .entry))) (now (station .entry)) ⌝ }
+{
+    station::frame(station, farm, f, reply)
+}
