@@ -1,5 +1,5 @@
-# Sourced: how programs for the library's processor are built and started here. Sets `cc`, which `need_cc` installs, and, where this
-# machine is another, `emulated`, the words that start a program. Installs what is missing by the name of its Debian package.
+# Sourced: how programs for the library's processor are built and started here. Sets `cc` and `nm`, which `need_cc` installs, and, where
+# this machine is another, `emulated`, the words that start a program. Installs what is missing by the name of its Debian package.
 
 stop() {
     echo "$0: $*" >&2
@@ -29,4 +29,5 @@ else
     cc_package=gcc-x86-64-linux-gnu
     emulated=(qemu-x86_64 -L /usr/x86_64-linux-gnu)
 fi
+nm=${cc%gcc}nm
 strict=(-std=c11 -Wall -Wextra -Wpedantic -Werror)
