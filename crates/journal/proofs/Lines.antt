@@ -56,11 +56,14 @@ either : (b : Bool) (xs ys : List ℕ) → length xs ≤ 244 → length ys ≤ 2
 either true xs ys h k = h
 either false xs ys h k = k
 
+refused-short : (f : List ℕ) (n : ℕ) → length (refusedReply f n) ≤ 244
+refused-short f n = either (ltb n 5) [] _ (omega arith) (omega arith)
+
 short : (f p : List ℕ) (n : ℕ) → length (replyOf f p n) ≤ 244
 short f p n =
     either (eqb n 0) (workedReply f p) (refusedReply f n)
     (either (isWrite f) _ (0x5E ∷ 0 ∷ 0x2F ∷ waitingLength p ∷ waiting p) (omega arith) (omega (arith, length-take (waitingLength p) (responseRoom p), length-take 240 (drop responseAt p))))
-    (either (ltb n 5) [] _ (omega arith) (omega arith))
+    (refused-short f n)
 
 abbrev lengthOf : Answer → ℕ
 lengthOf (toCycle c) = 0
@@ -75,4 +78,4 @@ reply-short k f m s r reply e = go (refusal k (length s)) e
         let p = partOf k s in
         let same : r .length ≡ length (replyOf f p (refusalOf k f (length m) p)) = ap lengthOf h in
         omega (arith, short f p (refusalOf k f (length m) p))
-    go (suc n) h = let same : r .length ≡ 0 = ap lengthOf h in omega arith
+    go (suc n) h = let same : r .length ≡ length (refusedReply f (suc n)) = ap lengthOf h in omega (arith, refused-short f (suc n))

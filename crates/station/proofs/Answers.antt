@@ -1,17 +1,20 @@
 -- What the tests of a station call settle, for every kind of call.
 use mathlib.Core.Path.{_≡_, refl, ap}
 use mathlib.Core.Bool.{Bool, true, false, cond, not, _&&_}
-use mathlib.Core.List.{List}
-use Prim.Native.Nat.{ℕ, zero, suc, _+_, _-_, _*_, _≤_}
+use mathlib.Core.List.{List, []}
+use Prim.Native.Nat.{ℕ, zero, suc, _+_, _-_, _*_, _≤_, _<_}
 use native.Mathlib.Omega.{arith}
-use lib.Dec.{eqb, leb}
+use lib.Dec.{eqb, leb, lit<}
 use lib.ListN.{length, take, drop}
-use borrow.Author.Tests.{leb-true, eqb-true, not-false}
+use borrow.Author.Tests.{leb-true, eqb-true, not-false, lt-ltb}
 use borrow.Rule.Slice.PartMut.{putMid}
 use Rattle.codes.proofs.Demand.{both}
+use Rattle.codes.proofs.Put.{put-none}
 use Rattle.part.specs.Layout.{partSize}
 use Rattle.station.specs.Parts.{farms, stationSize, window, withWindow, partOf, withPart, refusal}
+use Rattle.station.specs.Frame.{refusedReply}
 use Rattle.station.specs.Isolation.{Kinds, answer, after}
+use Rattle.station.specs.Calls.{frame, toFrame, refused}
 
 -- a farm or axis and a size that are not refused
 pub record Taken (k size : ℕ) : Type 0 where
@@ -56,3 +59,20 @@ module _ (K : Kinds) (c : K .Call) (s : List ℕ) where
 pub lent : (k : ℕ) (s : List ℕ) → take ((k - 1) * partSize + partSize - (k - 1) * partSize) (drop ((k - 1) * partSize) s) ≡ partOf k s
 unfolding window
 lent k s = rw (part-size k)
+
+-- numbers below 5 have an empty reply
+pub quiet : (f : List ℕ) (n : ℕ) → n < 5 → refusedReply f n ≡ []
+quiet f n h = rw (lt-ltb n 5 h)
+
+pub empty-refused : (k : ℕ) (f m : List ℕ) (n : ℕ) → n < 5 → toFrame (record { length = 0; stored = 0; number = n }) m ≡ refused (frame k f m) n
+empty-refused k f m n h = rw (quiet f n h, put-none m 0)
+
+-- farm and size are refused by 1 and 2
+pub refusal-small : (k size : ℕ) → refusal k size < 5
+unfolding refusal
+refusal-small k size = go (not (leb 1 k && leb k farms)) (not (eqb size stationSize))
+  where
+    go : (a b : Bool) → cond a 1 (cond b 2 0) < 5
+    go true b = lit< tt
+    go false true = lit< tt
+    go false false = lit< tt

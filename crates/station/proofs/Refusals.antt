@@ -20,8 +20,9 @@ use Rattle.station.specs.Parts.{farms, stationSize, partOf, withPart, re
 use Rattle.station.specs.Frame.{isWrite, isRead, slot, index, lengthByte, lengthFits, blockOf, refusalOf, codeOf, refusedReply, replyOf, frameAnswer, frameReply, framePart}
 use Rattle.station.specs.Cycle.{cycleRefusal, cycleAnswer, cyclePart}
 use Rattle.station.specs.Isolation.{answer, after}
-use Rattle.station.specs.Calls.{Call, cycle, frame, kinds, owner, answers, leaves}
-use Rattle.station.specs.Laws.{numberIn, refusedBy, laterTests, tableNumber, NumberedByTable, Refuses, Refused, EmptyReply, ReplyStands, ForeignAxis, UnreadableBlock}
+use Rattle.station.specs.Calls.{Call, cycle, frame, kinds, owner, refused, answers, leaves}
+use Rattle.station.specs.Laws.{numberIn, laterTests, tableNumber, NumberedByTable, Refuses, Refused, EmptyReply, ReplyStands, ForeignAxis, UnreadableBlock}
+use Rattle.station.proofs.Answers.{quiet}
 use Rattle.station.proofs.Isolation.{took-answer, took, gave-answer, gave}
 use Rattle.station.proofs.Sizes.{one-of}
 use Rattle.station.proofs.Windows.{with-same}
@@ -31,7 +32,7 @@ abbrev pub partRefusal : Call → List ℕ → ℕ
 partRefusal (cycle axis i) p = cycleRefusal axis i p
 partRefusal (frame farm f m) p = refusalOf farm f (length m) p
 
-part-answer : (c : Call) (p : List ℕ) (n : ℕ) → partRefusal c p ≡ suc n → answers c p ≡ refusedBy c (suc n)
+part-answer : (c : Call) (p : List ℕ) (n : ℕ) → partRefusal c p ≡ suc n → answers c p ≡ refused c (suc n)
 unfolding cycleAnswer frameAnswer frameReply
 part-answer (cycle axis i) p n e = rw (e, eqb·suc-zero n)
 part-answer (frame farm f m) p n e = rw (e, eqb·suc-zero n)
@@ -47,39 +48,23 @@ unfolding cycleAnswer frameAnswer
 part-done (cycle axis i) p e = rw e
 part-done (frame farm f m) p e = e
 
-pub number-by : (c : Call) (n : ℕ) → numberIn (refusedBy c n) ≡ n
+pub number-by : (c : Call) (n : ℕ) → numberIn (refused c n) ≡ n
 number-by (cycle axis i) n = refl
 number-by (frame farm f m) n = refl
 
--- an empty reply
-quiet : (f : List ℕ) (n : ℕ) → n < 5 → refusedReply f n ≡ []
-quiet f n h = rw (lt-ltb n 5 h)
-
--- farm and size refused
-refusal-small : (k size : ℕ) → refusal k size < 5
-unfolding refusal
-refusal-small k size =
-    one-of (λ (n : ℕ). n < 5) (not (leb 1 k && leb k farms)) _ _ (lit< tt)
-    (one-of (λ (n : ℕ). n < 5) (not (eqb size stationSize)) _ _ (lit< tt) (lit< tt))
-
-early-answer : (c : Call) (s : List ℕ) (n : ℕ) → refusal (owner c) (length s) ≡ suc n → answer kinds c s ≡ refusedBy c (suc n)
-early-answer (cycle axis i) s n e = gave-answer kinds (cycle axis i) s n e
-early-answer (frame farm f m) s n e =
-    gave-answer kinds (frame farm f m) s n e ∙ rw (quiet f (suc n) (omega (arith, refusal-small farm (length s))), put-none m 0)
-
 -- a call is refused, for its farm or size or for its part, or it is done
 pub data Way (c : Call) (s : List ℕ) : Type 0 where
-  refused : (n : ℕ) → (refusal (owner c) (length s) ≡ suc n) ⊎ ((refusal (owner c) (length s) ≡ 0) × (partRefusal c (partOf (owner c) s) ≡ suc n))
-      → answer kinds c s ≡ refusedBy c (suc n) → after kinds c s ≡ s → Way c s
+  stopped : (n : ℕ) → (refusal (owner c) (length s) ≡ suc n) ⊎ ((refusal (owner c) (length s) ≡ 0) × (partRefusal c (partOf (owner c) s) ≡ suc n))
+      → answer kinds c s ≡ refused c (suc n) → after kinds c s ≡ s → Way c s
   done : numberIn (answer kinds c s) ≡ 0 → partRefusal c (partOf (owner c) s) ≡ 0 → Way c s
 
 pub way : (c : Call) (s : List ℕ) → Way c s
 way c s = go (refusal (owner c) (length s)) refl (partRefusal c (partOf (owner c) s)) refl
   where
     go : (r : ℕ) → refusal (owner c) (length s) ≡ r → (n : ℕ) → partRefusal c (partOf (owner c) s) ≡ n → Way c s
-    go (suc r) e n d = refused r (inl e) (early-answer c s r e) (gave kinds c s r e)
+    go (suc r) e n d = stopped r (inl e) (gave-answer kinds c s r e) (gave kinds c s r e)
     go zero e (suc n) d =
-        refused n (inr (e, d)) (took-answer kinds c s e ∙ part-answer c (partOf (owner c) s) n d)
+        stopped n (inr (e, d)) (took-answer kinds c s e ∙ part-answer c (partOf (owner c) s) n d)
         (took kinds c s e
         ∙ (ap (λ (l : List ℕ). withPart (owner c) l s) (part-kept c (partOf (owner c) s) n d) ∙ with-same ((owner c - 1) * partSize) partSize s))
     go zero e zero d = done (ap numberIn (took-answer kinds c s e) ∙ part-done c (partOf (owner c) s) d) d
@@ -88,8 +73,8 @@ pub is-refused : Refused
 is-refused c s isnt = go (way c s)
   where
     go : Way c s → Refuses c s
-    go (refused n why a k) =
-        record { number = isnt; answered = a ∙ ap (refusedBy c) (sym (ap numberIn a ∙ number-by c (suc n))); kept = k }
+    go (stopped n why a k) =
+        record { number = isnt; answered = a ∙ ap (refused c) (sym (ap numberIn a ∙ number-by c (suc n))); kept = k }
     go (done z d) = absurd (isnt z)
 
 -- the whole table: where farm or size is refused, and where the part is left to judge
@@ -129,7 +114,7 @@ numbered-by-table c s = go (refusal (owner c) (length s)) refl
     ill = not (wellFormed (owner c) (partOf (owner c) s))
 
     go : (n : ℕ) → refusal (owner c) (length s) ≡ n → numberIn (answer kinds c s) ≡ tableNumber c s
-    go (suc n) e = ap numberIn (early-answer c s n e) ∙ (number-by c (suc n) ∙ sym (early-number out other ill (laterTests c (partOf (owner c) s)) n e))
+    go (suc n) e = ap numberIn (gave-answer kinds c s n e) ∙ (number-by c (suc n) ∙ sym (early-number out other ill (laterTests c (partOf (owner c) s)) n e))
     go zero e =
         ap numberIn (took-answer kinds c s e)
         ∙ (part-number c (partOf (owner c) s) ∙ (part-tests c (partOf (owner c) s) ∙ late-number out other ill (laterTests c (partOf (owner c) s)) e))
@@ -196,7 +181,7 @@ not-mine k f m s is isnt = is-refused (frame k f m) s (λ z. go z (way (frame k 
     works n z (worked e room my) = isnt (my is)
 
     go : numberIn (answer kinds (frame k f m) s) ≡ 0 → Way (frame k f m) s → ⊥
-    go z (refused n why a same) = let e : _≡_ {A = ℕ} 0 (suc n) = sym z ∙ (ap numberIn a ∙ number-by (frame k f m) (suc n)) in omega arith
+    go z (stopped n why a same) = let e : _≡_ {A = ℕ} 0 (suc n) = sym z ∙ (ap numberIn a ∙ number-by (frame k f m) (suc n)) in omega arith
     go z (done e d) = works (refusalOf k f (length m) (partOf k s)) d (says k f (length m) (partOf k s))
 
 pub foreign-axis : ForeignAxis

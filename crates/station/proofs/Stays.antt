@@ -25,7 +25,7 @@ use Rattle.station.specs.Calls.{Call, cycle, frame, kinds, owner, leaves
 use Rattle.station.specs.Laws.{numberIn, FreshParts, WellFormedStation, CallFits, CallKeepsWellFormed, NeverIllFormed}
 use Rattle.station.proofs.Isolation.{Right, right, length-after, own, other}
 use Rattle.station.proofs.Sizes.{one-of, sized}
-use Rattle.station.proofs.Refusals.{Way, refused, done, way, number-by, partRefusal, Says, ill-formed, small, framed, worked, says}
+use Rattle.station.proofs.Refusals.{Way, stopped, done, way, number-by, partRefusal, Says, ill-formed, small, framed, worked, says}
 
 -- fresh parts, one after the other
 pub parts-length : (n : ℕ) → length (freshParts n) ≡ n * partSize
@@ -112,7 +112,7 @@ call-not2 c s w two = go (way c s)
         part-not2 c (partOf (owner c) s) (w .parts (owner c) (g .low) (g .high)) (x .1 ∙ e)
 
     go : Way c s → ⊥
-    go (refused n why a k) = by n (sym (number-by c (suc n)) ∙ (sym (ap numberIn a) ∙ two)) why
+    go (stopped n why a k) = by n (sym (number-by c (suc n)) ∙ (sym (ap numberIn a) ∙ two)) why
     go (done z d) = omega arith
 
 -- a run of calls on well-formed parts

@@ -1,9 +1,11 @@
 -- Document 01, "The box and its edges": the kinds of call that a station has: whose each is, and what it answers and leaves on its owner's part.
 use mathlib.Core.List.{List}
 use Prim.Native.Nat.{ℕ}
+use lib.ListN.{length}
+use Rattle.codes.specs.Number.{put}
 use Rattle.station.specs.declared.Cycled.{Cycled}
 use Rattle.station.specs.declared.Framed.{Framed}
-use Rattle.station.specs.Frame.{frameAnswer, frameReply, framePart}
+use Rattle.station.specs.Frame.{refusedReply, frameAnswer, frameReply, framePart}
 use Rattle.station.specs.Cycle.{Sent, refusedCycle, cycleAnswer, cyclePart}
 use Rattle.station.specs.Isolation.{Kinds}
 
@@ -21,11 +23,12 @@ abbrev pub owner : Call → ℕ
 owner (cycle axis i) = axis
 owner (frame farm f m) = farm
 
--- refused before any part is looked at: the number, and nothing else
+-- refused by the number n: "a refused cycle answers its number and zeros"; a frame's reply is the table's, and nothing is stored
 abbrev pub refused : Call → ℕ → Answer
 refused (cycle axis i) n = toCycle (refusedCycle n)
-refused (frame farm f m) n = toFrame (record { length = 0; stored = 0; number = n }) m
+refused (frame farm f m) n = toFrame (record { length = length (refusedReply f n); stored = 0; number = n }) (put m 0 (refusedReply f n))
 
+-- on its owner's part
 abbrev pub answers : Call → List ℕ → Answer
 answers (cycle axis i) p = toCycle (cycleAnswer axis i p)
 answers (frame farm f m) p = toFrame (frameAnswer farm f m p) (frameReply farm f m p)

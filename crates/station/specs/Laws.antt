@@ -19,11 +19,11 @@ use Rattle.access.specs.Work.{worked, outcomeOf}
 use Rattle.part.specs.Fresh.{freshPart}
 use Rattle.part.specs.WellFormed.{wellFormed}
 use Rattle.station.specs.Parts.{farms, stationSize, partOf, freshStation}
-use Rattle.station.specs.Frame.{isWrite, blockOf, frameTests, refusalOf, refusedReply, replyOf, frameReply}
-use Rattle.station.specs.Cycle.{Sent, cycleTests, refusedCycle, cyclePart}
+use Rattle.station.specs.Frame.{isWrite, blockOf, frameTests, refusalOf, replyOf, frameReply}
+use Rattle.station.specs.Cycle.{Sent, cycleTests, cyclePart}
 use Rattle.station.specs.Runs.{runAnswers, runEnd}
 use Rattle.station.specs.Isolation.{Isolated, answer, after, machine}
-use Rattle.station.specs.Calls.{Call, cycle, frame, Answer, toCycle, toFrame, owner, kinds}
+use Rattle.station.specs.Calls.{Call, cycle, frame, Answer, toCycle, toFrame, owner, refused, kinds}
 
 -- Demand 2 for the calls of today
 abbrev pub IsolatedStation : Type 0
@@ -65,15 +65,10 @@ BlockNumbered =
     (k : ℕ) (s p : List ℕ)
     → outcomeOf k s p .number ≡ cond (not (readable blockLimit request s)) 10 (cond (not (eqb (headerOf s .axis) k)) 11 0)
 
--- "a refused cycle answers its number and zeros"; a refused frame puts its reply, and "0 elements are stored"
-abbrev pub refusedBy : Call → ℕ → Answer
-refusedBy (cycle axis i) n = toCycle (refusedCycle n)
-refusedBy (frame farm f m) n = toFrame (record { length = length (refusedReply f n); stored = 0; number = n }) (put m 0 (refusedReply f n))
-
 -- a call is refused: its number is not 0, its answer follows from that number, and "the whole station" stays unchanged
 pub record Refuses (c : Call) (s : List ℕ) : Type 0 where
   pub number : numberIn (answer kinds c s) ≡ 0 → ⊥
-  pub answered : answer kinds c s ≡ refusedBy c (numberIn (answer kinds c s))
+  pub answered : answer kinds c s ≡ refused c (numberIn (answer kinds c s))
   pub kept : after kinds c s ≡ s
 
 -- every number but 0 is a refusal

@@ -1,11 +1,12 @@
 -- Numbers 1 and 2 are settled here; else the part is lent and comes back.
 use mathlib.Core.Path.{sym, ap, ap₂, _∙_}
+use Prim.Native.Nat.{_<_}
 use denote.Ref.{now}
 use native.Mathlib.Omega.{arith}
 use lib.ListN.{length}
 use Rattle.catalogue.specs.Table.{rows, parameterBytes}
 use Rattle.station.specs.Calls.{kinds, frame, toFrame}
-use Rattle.station.proofs.Answers.{takes, refuses, does, lent}
+use Rattle.station.proofs.Answers.{takes, refuses, does, lent, refusal-small, empty-refused}
 use borrow.Author.Needs.{needs}
 use Rattle.station.proofs.frame.Statement.{statement}
 use Rattle.station.proofs.frame.Tie as tie
@@ -20,7 +21,9 @@ returns : tie.Need-returns
 returns c =
     let a = c .before .before .before .before .before .before .args in
     let e = refuses kinds (frame (a .farm) (now (a .f)) (now (a .reply))) (now (a .station)) (c .before .before .refused .result) (c .before .before .refused .ensures) (c .before .if1 .taken) in
-    (ap (λ r. toFrame r (now (a .reply))) (c .empty .ensures) ∙ e .0, e .1)
+    let few : c .before .before .refused .result < 5 = omega (arith, c .before .before .refused .ensures, refusal-small (a .farm) (length (now (a .station)))) in
+    let empty = empty-refused (a .farm) (now (a .f)) (now (a .reply)) (c .before .before .refused .result) few in
+    (ap (λ r. toFrame r (now (a .reply))) (c .empty .ensures) ∙ (empty ∙ e .0), e .1)
 
 sub-a : tie.Need-sub-a
 sub-a c =
