@@ -13,7 +13,7 @@ use borrow.Author.Tests.{leb-true, le-leb, lt-ltb, eqb-true, eqb-false, not-fals
 use borrow.Table.Steps.{cases}
 use Rattle.codes.specs.Code.{AllOf, writeAll}
 use Rattle.codes.specs.Number.{numberAt}
-use Rattle.blocks.specs.Block.{Block, blockLimit, formatSize, sizeOf, blockFits, valuesOf, valuesSize}
+use Rattle.blocks.specs.Block.{Block, blockLimit, formatSize, valueSize, blockFits, valuesOf, valuesSize}
 use Rattle.blocks.specs.Request.{Request, requestBlocks}
 use Rattle.blocks.specs.Response.{Response, isAnswer, responseBlocks, isError, hasError, errorsFit, response}
 use Rattle.blocks.specs.Page.{BlockFits, RequestFits, ResponseFits, blockBytes, responseBytes}
@@ -37,32 +37,32 @@ use Rattle.access.proofs.Checks.{pick, Named, CheckedFits, checked-fits
 use Rattle.access.specs.Laws.{SameHeader, AnswersHeader, AnswerFits, AnswerShort, AnswerReadable, AnswerAxis, blocksOf, OneEach, AnswersBlocks, AnswersIdentifier, FailureAnswered}
 
 -- a format that a parameter's values may have is as wide as its elements
-size-same : (k : Kind) → sizeOf (sizeCode k) ≡ elementSize k
-unfolding sizeOf formatSize
+size-same : (k : Kind) → valueSize (sizeCode k) ≡ elementSize k
+unfolding valueSize formatSize
 size-same U8 = refl
 size-same U16 = refl
 size-same I16 = refl
 size-same I32 = refl
 
-type-same : (k : Kind) → sizeOf (typeCode k) ≡ elementSize k
-unfolding sizeOf formatSize
+type-same : (k : Kind) → valueSize (typeCode k) ≡ elementSize k
+unfolding valueSize formatSize
 type-same U8 = refl
 type-same U16 = refl
 type-same I16 = refl
 type-same I32 = refl
 
-format-same : (k : Kind) (f : ℕ) → eqb f (sizeCode k) || eqb f (typeCode k) ≡ true → sizeOf f ≡ elementSize k
+format-same : (k : Kind) (f : ℕ) → eqb f (sizeCode k) || eqb f (typeCode k) ≡ true → valueSize f ≡ elementSize k
 format-same k f e =
     cases (eqb f (sizeCode k))
-    (λ t. ap sizeOf (eqb-true f (sizeCode k) t) ∙ size-same k)
-    (λ t. ap sizeOf (eqb-true f (typeCode k) (rw t at e)) ∙ type-same k)
+    (λ t. ap valueSize (eqb-true f (sizeCode k) t) ∙ size-same k)
+    (λ t. ap valueSize (eqb-true f (typeCode k) (rw t at e)) ∙ type-same k)
 
 -- A change of one address fails, or its values are stored one by one: then these are as many and as wide as the elements.
 pub record Stores (a : Address) (b : Block) (r : Row) (n : ℕ) : Type 0 where
   pub passed : checked a ≡ Elements r n
   pub named : Named a r n
   pub writable : r .writable ≡ true
-  pub wide : sizeOf (b .format) ≡ elementSize (r .kind)
+  pub wide : valueSize (b .format) ≡ elementSize (r .kind)
   pub count : length (b .values) ≡ n
 
 module _ (a : Address) (b : Block) (p : List ℕ) (P : Changed → Type 0)
@@ -94,15 +94,15 @@ module _ (a : Address) (b : Block) (p : List ℕ) (P : Changed → Type 0)
 
 -- An error word and `40 00`: they fit where they may stand, and take at most 4 bytes.
 error-fits : (id e : ℕ) → blockFits id 0x44 1 ≡ true → e < 65536 → BlockFits id (errorBlock e)
-unfolding sizeOf
+unfolding valueSize
 error-fits id e allowed small = record { format = lit< tt; number = lit< tt; allowed = allowed; values = (small, tt) }
 
 error-size : (e : ℕ) → blockSize (errorBlock e) ≡ 4
-unfolding valuesSize valuesOf sizeOf
+unfolding valuesSize valuesOf valueSize
 error-size e = refl
 
 empty-size : blockSize emptyBlock ≡ 2
-unfolding valuesSize valuesOf sizeOf formatSize
+unfolding valuesSize valuesOf valueSize formatSize
 empty-size = refl
 
 -- the blocks that stand after `used` bytes of a response, one for each of n addresses
@@ -141,7 +141,7 @@ elements-count : (r : Row) (i n : ℕ) (p : List ℕ) → length (elementsFrom r
 elements-count r i zero p = refl
 elements-count r i (suc n) p = ap suc (elements-count r (i + 1) n p)
 
-elements-small : (r : Row) (i n : ℕ) (p : List ℕ) → AllOf (λ x. x < 256 ^ sizeOf (sizeCode (r .kind))) (elementsFrom r i n p)
+elements-small : (r : Row) (i n : ℕ) (p : List ℕ) → AllOf (λ x. x < 256 ^ valueSize (sizeCode (r .kind))) (elementsFrom r i n p)
 elements-small r i zero p = tt
 elements-small r i (suc n) p = (rw (size-same (r .kind)) (element-small r i p), elements-small r (i + 1) n p)
 

@@ -18,7 +18,7 @@ use Rattle.codes.proofs.Number.{number-is}
 use Rattle.codes.proofs.Put.{word-length}
 use Rattle.blocks.specs.declared.Head.{Head}
 use Rattle.blocks.specs.declared.BlockAt.the-variants.{Stands, Nothing}
-use Rattle.blocks.specs.Block.{Block, oneByte, twoBytes, fourBytes, formatSize, sizeOf, blockFits, valuesOf, valuesSize, block}
+use Rattle.blocks.specs.Block.{Block, oneByte, twoBytes, fourBytes, formatSize, valueSize, blockFits, valuesOf, valuesSize, block}
 use Rattle.blocks.specs.Place.{headOf, blockAt, valueAt}
 use Rattle.blocks.proofs.Sound.{block-sound, values-sound, values-count}
 
@@ -27,8 +27,8 @@ at-most : (b : Bool) (x y : ℕ) → x ≤ 4 → y ≤ 4 → cond b x y ≤ 4
 at-most true x y h k = h
 at-most false x y h k = k
 
-pub size-small : (f : ℕ) → sizeOf f ≤ 4
-unfolding sizeOf formatSize
+pub size-small : (f : ℕ) → valueSize f ≤ 4
+unfolding valueSize formatSize
 size-small f =
     at-most (eqb f 0x44) 2 _ (lit≤ tt)
     (at-most (oneByte f) 1 _ (lit≤ tt)
@@ -36,13 +36,13 @@ size-small f =
     (at-most (fourBytes f) 4 0 (lit≤ tt) (lit≤ tt))))
 
 -- the size of n values is n times that of one
-pub values-size : (f n : ℕ) → valuesSize f n ≡ n * sizeOf f
+pub values-size : (f n : ℕ) → valuesSize f n ≡ n * valueSize f
 unfolding valuesSize valuesOf
-values-size f n = all-length (word (sizeOf f) .write) (sizeOf f) (word-length (sizeOf f)) (replicate n 0) ∙ ap (λ (k : ℕ). k * sizeOf f) (length-replicate n 0)
+values-size f n = all-length (word (valueSize f) .write) (valueSize f) (word-length (valueSize f)) (replicate n 0) ∙ ap (λ (k : ℕ). k * valueSize f) (length-replicate n 0)
 
 fixed-values : (f n : ℕ) → Fixed (valuesOf f n) (valuesSize f n)
 unfolding valuesOf
-fixed-values f n = rw (values-size f n) (fixed-times (word (sizeOf f)) (sizeOf f) (fixed-word (sizeOf f)) n)
+fixed-values f n = rw (values-size f n) (fixed-times (word (valueSize f)) (valueSize f) (fixed-word (valueSize f)) n)
 
 -- The block at a place: two bytes, the format and the count, and then the values.
 module _ (id : ℕ) (s : List ℕ) (b : Bytes s) (at : ℕ) where
@@ -147,7 +147,7 @@ block-step id s at n b bs t e =
       rest = ap (readTimes (block id .read) n) (sym stood) ∙ p .2;
     }
 
-values-valid : (id : ℕ) (b : Block) → block id .Valid b → AllOf (word (sizeOf (b .format)) .Valid) (b .values)
+values-valid : (id : ℕ) (b : Block) → block id .Valid b → AllOf (word (valueSize (b .format)) .Valid) (b .values)
 unfolding block valuesOf
 values-valid id b v = v .1 .1 .0 .1
 
@@ -155,22 +155,22 @@ block-two : (id : ℕ) (b : Block) → 2 ≤ length (block id .write b)
 unfolding block
 block-two id b = omega arith
 
-values-tail : (id : ℕ) (s : List ℕ) (at : ℕ) (b : Block) (t : List ℕ) → drop at s ≡ block id .write b ++ t → drop (at + 2) s ≡ writeAll (word (sizeOf (b .format)) .write) (b .values) ++ t
+values-tail : (id : ℕ) (s : List ℕ) (at : ℕ) (b : Block) (t : List ℕ) → drop at s ≡ block id .write b ++ t → drop (at + 2) s ≡ writeAll (word (valueSize (b .format)) .write) (b .values) ++ t
 unfolding block valuesOf
-values-tail id s at b t e = sym (drop-drop 2 at s) ∙ (ap (drop 2) e ∙ ap (λ (l : List ℕ). l ++ t) (append-nil (writeAll (word (sizeOf (b .format)) .write) (b .values))))
+values-tail id s at b t e = sym (drop-drop 2 at s) ∙ (ap (drop 2) e ∙ ap (λ (l : List ℕ). l ++ t) (append-nil (writeAll (word (valueSize (b .format)) .write) (b .values))))
 
 -- its values all stand in the list
-pub values-inside : (id : ℕ) (s : List ℕ) (at : ℕ) (b : Block) (t : List ℕ) → block id .read (drop at s) ≡ got b t → at + 2 + length (b .values) * sizeOf (b .format) ≤ length s
+pub values-inside : (id : ℕ) (s : List ℕ) (at : ℕ) (b : Block) (t : List ℕ) → block id .read (drop at s) ≡ got b t → at + 2 + length (b .values) * valueSize (b .format) ≤ length s
 values-inside id s at b t e =
     let o = block-sound id .only (drop at s) b t e in
-    let w = sizeOf (b .format) in
+    let w = valueSize (b .format) in
     let v = ap length (values-tail id s at b t (o .1)) ∙ length-append (writeAll (word w .write) (b .values)) t in
     omega (arith, v, all-length (word w .write) w (word-length w) (b .values), length-drop (at + 2) s, length-drop at s, ap length (o .1), length-append (block id .write b) t, block-two id b)
 
 -- the j-th value of a block stands after its two bytes and j values
-pub value-stands : (id : ℕ) (s : List ℕ) (at : ℕ) (b : Block) (t : List ℕ) (j : ℕ) → block id .read (drop at s) ≡ got b t → j < length (b .values) → numberAt (sizeOf (b .format)) s (at + 2 + j * sizeOf (b .format)) ≡ getD (b .values) j 0
+pub value-stands : (id : ℕ) (s : List ℕ) (at : ℕ) (b : Block) (t : List ℕ) (j : ℕ) → block id .read (drop at s) ≡ got b t → j < length (b .values) → numberAt (valueSize (b .format)) s (at + 2 + j * valueSize (b .format)) ≡ getD (b .values) j 0
 value-stands id s at b t j e h =
-    let w = sizeOf (b .format) in
+    let w = valueSize (b .format) in
     let o = block-sound id .only (drop at s) b t e in
     let p = item-at (word w) (word-sound w) w (word-length w) 0 (b .values) (values-valid id b (o .0)) t j h in
     number-is w s (at + 2 + j * w) (getD (b .values) j 0) (p .0) (size-small (b .format))
@@ -187,9 +187,9 @@ module _ (s : List ℕ) (at j : ℕ) where
     unfolding valueAt
     value-past k = rw (st .read) (sym (List·getD-eq-default (st .it .values) 0 {n = j} (omega (arith, st .count))))
 
-    module _ (z : ℕ) (ez : z ≡ sizeOf (h .format)) (k : j < h .count) where
-      size-is : z ≡ sizeOf (st .it .format)
-      size-is = ez ∙ ap sizeOf (st .format)
+    module _ (z : ℕ) (ez : z ≡ valueSize (h .format)) (k : j < h .count) where
+      size-is : z ≡ valueSize (st .it .format)
+      size-is = ez ∙ ap valueSize (st .format)
 
       pub value-room : at + 2 + j * z ≤ length s
       value-room =

@@ -13,7 +13,7 @@ use Rattle.codes.specs.Code.{AllOf, writeAll, byte, within}
 use Rattle.codes.proofs.Sound.{word-valid, valid-word}
 use Rattle.codes.proofs.Demand.{both}
 use Rattle.blocks.specs.declared.reader.Address.{Address}
-use Rattle.blocks.specs.Block.{Block, block, valuesOf, sizeOf}
+use Rattle.blocks.specs.Block.{Block, block, valuesOf, valueSize}
 use Rattle.blocks.specs.Request.{Request, address, request}
 use Rattle.blocks.specs.Response.{Response, response, isAnswer}
 use Rattle.blocks.specs.Page.{From, AddressFits, BlockFits, RequestFits, ResponseFits, addressBytes, blockBytes, requestBytes, responseBytes}
@@ -74,9 +74,9 @@ block-valid id b = (
     format = byte-valid _ .0 (v .0);
     number = byte-valid _ .0 (v .1 .0 .0);
     allowed = v .1 .0 .1;
-    values = all-map _ _ (λ x. word-valid (sizeOf (b .format)) x) (b .values) (v .1 .1 .0 .1);
+    values = all-map _ _ (λ x. word-valid (valueSize (b .format)) x) (b .values) (v .1 .1 .0 .1);
   },
-  λ h. (byte-valid _ .1 (h .format), ((byte-valid _ .1 (h .number), h .allowed), ((refl, all-map _ _ (λ x. valid-word (sizeOf (b .format)) x) (b .values) (h .values)), refl))),
+  λ h. (byte-valid _ .1 (h .format), ((byte-valid _ .1 (h .number), h .allowed), ((refl, all-map _ _ (λ x. valid-word (valueSize (b .format)) x) (b .values) (h .values)), refl))),
 )
 
 pub request-valid : (r : Request) → request .Valid r ↔ RequestFits r

@@ -5,7 +5,7 @@ use lib.ListN.{length}
 use Prim.Native.Nat.{ℕ}
 use Rattle.codes.proofs.Sound.{Sound, field-sound, give-sound, byte-sound, word-sound, within-sound, check-sound, times-sound}
 use Rattle.blocks.specs.declared.reader.Address.{Address}
-use Rattle.blocks.specs.Block.{Block, block, blockFits, valuesOf, sizeOf}
+use Rattle.blocks.specs.Block.{Block, block, blockFits, valuesOf, valueSize}
 use Rattle.blocks.specs.Request.{Request, address, request, requestBlocks}
 use Rattle.blocks.specs.Response.{Response, response, responseBlocks, errorsFit}
 
@@ -24,7 +24,7 @@ address-sound =
 
 pub values-sound : (f n : ℕ) → Sound (valuesOf f n)
 unfolding valuesOf
-values-sound f n = times-sound _ (word-sound (sizeOf f)) n
+values-sound f n = times-sound _ (word-sound (valueSize f)) n
 
 -- as many values as were counted
 pub values-count : (f n : ℕ) (vs : List ℕ) → valuesOf f n .Valid vs → length vs ≡ n

@@ -29,8 +29,8 @@ unfoldable pub formatSize : ℕ → ℕ
 formatSize f = cond (oneByte f) 1 (cond (twoBytes f) 2 (cond (fourBytes f) 4 0))
 
 -- the same with the error word of a response, 0x44
-unfoldable pub sizeOf : ℕ → ℕ
-sizeOf f = cond (eqb f 0x44) 2 (formatSize f)
+unfoldable pub valueSize : ℕ → ℕ
+valueSize f = cond (eqb f 0x44) 2 (formatSize f)
 
 -- response: "0x41, 0x42 or 0x43, a count from 1 and the values; 40 00; or 44 01 and one error word"
 abbrev pub valueFits : ℕ → ℕ → Bool
@@ -53,7 +53,7 @@ blockFits id f n =
 
 -- n values of the format f. "Byte values are followed by nothing, however many"
 unfoldable pub valuesOf : ℕ → ℕ → Code (List ℕ)
-valuesOf f n = times n (word (sizeOf f))
+valuesOf f n = times n (word (valueSize f))
 
 -- the bytes that they take, whatever the values
 unfoldable pub valuesSize : ℕ → ℕ → ℕ

@@ -7,7 +7,7 @@ use Prim.Native.Nat.{ℕ, _≤_, _<_, _/_, _%_, _^_}
 use lib.ListN.{length}
 use Rattle.codes.specs.Code.{AllOf, writeAll, word}
 use Rattle.blocks.specs.declared.reader.Address.{Address}
-use Rattle.blocks.specs.Block.{Block, sizeOf, blockFits}
+use Rattle.blocks.specs.Block.{Block, valueSize, blockFits}
 use Rattle.blocks.specs.Request.{Request, requestBlocks}
 use Rattle.blocks.specs.Response.{Response, isAnswer, responseBlocks, errorsFit}
 
@@ -26,7 +26,7 @@ pub record BlockFits (id : ℕ) (b : Block) : Type 0 where
   pub format : b .format < 256
   pub number : length (b .values) < 256
   pub allowed : blockFits id (b .format) (length (b .values)) ≡ true
-  pub values : AllOf (λ x. x < 256 ^ sizeOf (b .format)) (b .values)
+  pub values : AllOf (λ x. x < 256 ^ valueSize (b .format)) (b .values)
 
 pub record RequestFits (r : Request) : Type 0 where
   pub reference : From 1 255 (r .reference)
@@ -52,7 +52,7 @@ addressBytes a =
     a .attribute ∷ a .elements ∷ a .pnu / 256 % 256 ∷ a .pnu % 256 ∷ a .subindex / 256 % 256 ∷ a .subindex % 256 ∷ []
 
 abbrev pub blockBytes : Block → List ℕ
-blockBytes b = b .format ∷ length (b .values) ∷ writeAll (word (sizeOf (b .format)) .write) (b .values)
+blockBytes b = b .format ∷ length (b .values) ∷ writeAll (word (valueSize (b .format)) .write) (b .values)
 
 abbrev pub requestBytes : Request → List ℕ
 requestBytes r =

@@ -1,7 +1,7 @@
 // Formats, their sizes, and which blocks may stand where.
 ghost use mathlib.Core.Path.{_≡_};
 ghost use Prim.Native.Nat.{_≤_};
-ghost use Rattle.blocks.specs.Block.{formatSize, sizeOf, valueFits, errorFits, emptyFits, blockFits, valuesSize};
+ghost use Rattle.blocks.specs.Block.{formatSize, valueSize, valueFits, errorFits, emptyFits, blockFits, valuesSize};
 ghost use Rattle.blocks.specs.Request.{requestBlocks};
 ghost use Rattle.blocks.specs.Response.{responseBlocks, isAnswer};
 
@@ -17,8 +17,8 @@ fn format_size(f: u8) -> usize
     }
 }
 
-pub fn size_of(f: u8) -> usize
-    ensures { λ r. ⌜ (r ≡ sizeOf f) × (r ≤ 4) ⌝ }
+pub fn value_size(f: u8) -> usize
+    ensures { λ r. ⌜ (r ≡ valueSize f) × (r ≤ 4) ⌝ }
 {
     if f == 0x44 { 2 } else { format_size(f) }
 }
@@ -27,7 +27,7 @@ pub fn size_of(f: u8) -> usize
 pub fn values_size(f: u8, n: u8) -> usize
     ensures { λ r. ⌜ (r ≡ valuesSize f n) × (r ≤ 1020) ⌝ }
 {
-    codes::wide(n) * size_of(f)
+    codes::wide(n) * value_size(f)
 }
 
 fn value_fits(f: u8, n: u8) -> bool

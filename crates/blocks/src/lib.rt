@@ -93,7 +93,7 @@ pub fn value_at(s: &[u8], at: usize, j: usize) -> u32
     let BlockAt::Stands(h) = b else {
         return 0;
     };
-    let size = layout::size_of(h.format);
+    let size = layout::value_size(h.format);
     if j < codes::wide(h.count) {
         codes::number_at(s, at + 2 + j * size, size)
     } else {

@@ -57,7 +57,7 @@ pub fn put_block(out: &mut [u8], at: usize, f: u8, values: &[u32])
     }
     out[at] = f;
     out[at + 1] = n;
-    put_values(out, at + 2, super::layout::size_of(f), values);
+    put_values(out, at + 2, super::layout::value_size(f), values);
 }
 
 // `40 00`: a parameter of a change that did not fail.

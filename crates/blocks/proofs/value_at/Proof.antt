@@ -21,8 +21,8 @@ returns c =
     let a = c .before .before .before .before .args in
     value-nowhere (now (a .s)) (a .at) (a .j) (sym (c .before .before .block-at .ensures) ∙ c .enum-told .given .1)
 
-size-of-requires : tie.Need-size-of-requires
-size-of-requires c κs = search needs
+value-size-requires : tie.Need-value-size-requires
+value-size-requires c κs = search needs
 
 wide-requires : tie.Need-wide-requires
 wide-requires c κs = search needs
@@ -32,7 +32,7 @@ add-number-at c =
     let a = c .before .before .before .before .before .before .before .before .args in
     let v = c .before .before .before .before .b .given in
     let st = block-stands 2 (now (a .s)) (a .at) (v .0 .0) (sym (c .before .before .before .before .before .before .block-at .ensures) ∙ v .1) in
-    let z = c .before .before .size-of in
+    let z = c .before .before .value-size in
     omega (arith, value-room (now (a .s)) (a .at) (a .j) (v .0 .0) st (z .result) (z .ensures .0) (omega arith))
 
 mul-number-at : tie.Need-mul-number-at
@@ -40,7 +40,7 @@ mul-number-at c =
     let a = c .before .before .before .before .before .before .before .before .args in
     let v = c .before .before .before .before .b .given in
     let st = block-stands 2 (now (a .s)) (a .at) (v .0 .0) (sym (c .before .before .before .before .before .before .block-at .ensures) ∙ v .1) in
-    let z = c .before .before .size-of in
+    let z = c .before .before .value-size in
     omega (arith, value-room (now (a .s)) (a .at) (a .j) (v .0 .0) st (z .result) (z .ensures .0) (omega arith))
 
 add-number-at-2 : tie.Need-add-number-at-2
@@ -48,7 +48,7 @@ add-number-at-2 c =
     let a = c .before .before .before .before .before .before .before .before .args in
     let v = c .before .before .before .before .b .given in
     let st = block-stands 2 (now (a .s)) (a .at) (v .0 .0) (sym (c .before .before .before .before .before .before .block-at .ensures) ∙ v .1) in
-    let z = c .before .before .size-of in
+    let z = c .before .before .value-size in
     omega (arith, value-room (now (a .s)) (a .at) (a .j) (v .0 .0) st (z .result) (z .ensures .0) (omega arith))
 
 number-at-requires : tie.Need-number-at-requires
@@ -59,7 +59,7 @@ returns-2 c =
     let a = c .before .before .before .before .before .before .before .before .before .args in
     let v = c .before .before .before .before .before .b .given in
     let st = block-stands 2 (now (a .s)) (a .at) (v .0 .0) (sym (c .before .before .before .before .before .before .before .block-at .ensures) ∙ v .1) in
-    let z = c .before .before .before .size-of in
+    let z = c .before .before .before .value-size in
     c .number-at .ensures ∙ value-here (now (a .s)) (a .at) (a .j) (v .0 .0) st (z .result) (z .ensures .0) (omega arith)
 
 returns-3 : tie.Need-returns-3
@@ -77,7 +77,7 @@ value-at-spec =
     enum-known-b
     enum-told
     returns
-    size-of-requires
+    value-size-requires
     wide-requires
     add-number-at
     mul-number-at

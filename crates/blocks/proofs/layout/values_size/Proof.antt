@@ -11,17 +11,17 @@ use Rattle.blocks.proofs.layout.values_size.Tie as tie
 wide-requires : tie.Need-wide-requires
 wide-requires c κs = search needs
 
-size-of-requires : tie.Need-size-of-requires
-size-of-requires c κs = search needs
+value-size-requires : tie.Need-value-size-requires
+value-size-requires c κs = search needs
 
 mul-result : tie.Need-mul-result
-mul-result c = omega (arith, small (c .before .wide .result) (c .size-of .result) (omega (arith, c .before .wide .ensures)) (c .size-of .ensures .1))
+mul-result c = omega (arith, small (c .before .wide .result) (c .value-size .result) (omega (arith, c .before .wide .ensures)) (c .value-size .ensures .1))
 
 returns : tie.Need-returns
 returns c = (
-  ap₂ (λ (x y : ℕ). x * y) (c .before .wide .ensures) (c .size-of .ensures .0) ∙ sym (values-size (c .before .before .args .f) (c .before .before .args .n)),
-  small (c .before .wide .result) (c .size-of .result) (omega (arith, c .before .wide .ensures)) (c .size-of .ensures .1),
+  ap₂ (λ (x y : ℕ). x * y) (c .before .wide .ensures) (c .value-size .ensures .0) ∙ sym (values-size (c .before .before .args .f) (c .before .before .args .n)),
+  small (c .before .wide .result) (c .value-size .result) (omega (arith, c .before .wide .ensures)) (c .value-size .ensures .1),
 )
 
 pub values-size-spec : {M : Type 1} → statement M
-values-size-spec = tie.close (tie.spec wide-requires size-of-requires mul-result returns)
+values-size-spec = tie.close (tie.spec wide-requires value-size-requires mul-result returns)

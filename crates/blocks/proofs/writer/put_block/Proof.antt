@@ -45,13 +45,13 @@ slice-write-out-2 c = simp length-set (omega arith)
 add-put-values : tie.Need-add-put-values
 add-put-values c = search needs
 
-size-of-requires : tie.Need-size-of-requires
-size-of-requires c κs = search needs
+value-size-requires : tie.Need-value-size-requires
+value-size-requires c κs = search needs
 
 put-values-requires : tie.Need-put-values-requires
 put-values-requires c κs =
     let a = c .before .before .before .before .before .before .before .before .args in
-    simp length-set (rw (c .size-of .ensures .0) (omega (arith, values-size (a .f) (length (now (a .values))))))
+    simp length-set (rw (c .value-size .ensures .0) (omega (arith, values-size (a .f) (length (now (a .values))))))
 
 same-length : tie.Need-same-length
 same-length c = c .before .before .put-values .kept .0 ∙ simp length-set
@@ -59,7 +59,7 @@ same-length c = c .before .before .put-values .kept .0 ∙ simp length-set
 returns-4 : tie.Need-returns-4
 returns-4 c =
     let a = c .before .before .before .before .before .before .before .before .before .before .before .args in
-    let z = c .before .before .before .size-of in
+    let z = c .before .before .before .value-size in
     rw (c .before .before .put-values .ensures) (block-stored (now (a .out)) (a .at) (a .f) (z .result) (now (a .values)) (z .ensures .0) (omega arith) (omega arith))
 
 pub put-block-spec : {M : Type 1} → statement M
@@ -76,7 +76,7 @@ put-block-spec =
     add-out
     slice-write-out-2
     add-put-values
-    size-of-requires
+    value-size-requires
     put-values-requires
     same-length
     returns-4)

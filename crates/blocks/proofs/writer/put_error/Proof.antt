@@ -1,5 +1,5 @@
 -- The size of an error word is two bytes.
-use Rattle.blocks.specs.Block.{sizeOf}
+use Rattle.blocks.specs.Block.{valueSize}
 use borrow.Author.Needs.{needs}
 use Rattle.blocks.proofs.writer.put_error.Statement.{statement}
 use Rattle.blocks.proofs.writer.put_error.Tie as tie
@@ -14,7 +14,7 @@ same-length : tie.Need-same-length
 same-length c = search needs
 
 returns : tie.Need-returns
-unfolding sizeOf
+unfolding valueSize
 returns c = search needs
 
 pub put-error-spec : {M : Type 1} → statement M
