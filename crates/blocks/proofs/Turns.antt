@@ -13,7 +13,7 @@ use native.Mathlib.Decide.{decLe}
 use Rattle.codes.specs.Code.{Got, got, bad, andThen, readTimes, isWhole}
 use Rattle.blocks.specs.Block.{Block, block}
 use Rattle.blocks.specs.Response.{isError, hasError}
-use Rattle.blocks.specs.Walk.{mapGot, standing, Inside, erring}
+use Rattle.blocks.specs.Walk.{mapGot, standing, InBlock, erring}
 use Rattle.blocks.specs.declared.Walk.{Walk}
 use Rattle.blocks.specs.declared.Walk.the-variants.{At}
 
@@ -47,8 +47,8 @@ module _ (id : ℕ) (s : List ℕ) (error : Bool) where
 
 -- a walk is whole where it stands at the slice's end, if it met the error that it needs
 module _ (s : List ℕ) (w : Walk) (e : ℕ) (b need : Bool) (q : w ≡ At e b) where
-  pub met : Inside s w → not need || b ≡ true → eqb e (length s) ≡ isWhole (erring need (standing s w))
-  met i t = rw (q, t) (go (decLe (length s) e) (subst (λ (x : Walk). Inside s x) q i))
+  pub met : InBlock s w → not need || b ≡ true → eqb e (length s) ≡ isWhole (erring need (standing s w))
+  met i t = rw (q, t) (go (decLe (length s) e) (subst (λ (x : Walk). InBlock s x) q i))
     where
       go : Dec (length s ≤ e) → e ≤ length s → eqb e (length s) ≡ isWhole (got b (drop e s))
       go (yes y) h = rw (drop-of-length-le s y, eq-eqb e (length s) (omega arith))

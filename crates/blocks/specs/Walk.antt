@@ -15,14 +15,14 @@ abbrev pub standing : List ℕ → Walk → Got Bool
 standing s (At e error) = got error (drop e s)
 standing s Bad = bad
 
-abbrev pub Inside : List ℕ → Walk → Type 0
-Inside s (At e error) = e ≤ length s
-Inside s Bad = Unit {0}
+abbrev pub InBlock : List ℕ → Walk → Type 0
+InBlock s (At e error) = e ≤ length s
+InBlock s Bad = Unit {0}
 
 -- w is where the reader that found g in s stands, and whether what it read held an error
 pub record Walked (s : List ℕ) (g : Got Bool) (w : Walk) : Type 0 where
   pub stands : standing s w ≡ g
-  pub inside : Inside s w
+  pub inBlock : InBlock s w
 
 -- where an error is needed, nothing is read without one
 abbrev pub erring : Bool → Got Bool → Got Bool

@@ -7,7 +7,7 @@ ghost use Rattle.blocks.specs.Block.{blockLimit, block};
 ghost use Rattle.blocks.specs.Request.{request};
 ghost use Rattle.blocks.specs.Response.{hasError, response};
 ghost use Rattle.blocks.specs.Place.{headerOf, blockAt, valueAt};
-ghost use Rattle.blocks.specs.Walk.{mapGot, standing, Inside, Walked, erring};
+ghost use Rattle.blocks.specs.Walk.{mapGot, standing, InBlock, Walked, erring};
 
 mod layout;
 pub mod reader;
@@ -123,7 +123,7 @@ fn blocks_end(s: &[u8], from: usize, n: usize, id: u8) -> Walk
 
 // Whether a walk came to the end of the slice, and met an error where one is needed.
 fn whole(s: &[u8], w: Walk, need: bool) -> bool
-    requires { ⌜ Inside (now s) w ⌝ }
+    requires { ⌜ InBlock (now s) w ⌝ }
     ensures { λ r. ⌜ r ≡ isWhole (erring need (standing (now (s .entry)) w)) ⌝ }
 {
     let Walk::At(e, error) = w else {

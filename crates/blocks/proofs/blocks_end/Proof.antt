@@ -42,7 +42,7 @@ returns c =
     let fell = block-falls (a .id) (now (a .s)) (l .at) (sym (c .before .before .block-at .ensures) ∙ c .enum-told .given .1) in
     record {
       stands = halt (a .id) (drop (l .at) (now (a .s))) (l .error) (l .left) (c .before .before .before .loop-test .taken) fell ∙ l .inv .1;
-      inside = tt;
+      inBlock = tt;
     }
 
 either-requires : tie.Need-either-requires Inv-loop μ-loop
@@ -79,7 +79,7 @@ returns-2 c =
           ap (λ (x : Bool). got x (drop (l .at) (now (a .s)))) (sym (or-false (l .error)))
           ∙ ap (λ (k : ℕ). ahead (l .error) (a .id) k (drop (l .at) (now (a .s)))) (sym z)
           ∙ l .inv .1;
-      inside = l .inv .0;
+      inBlock = l .inv .0;
     }
 
 pub blocks-end-spec : {M : Type 1} → statement M
