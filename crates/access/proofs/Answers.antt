@@ -13,7 +13,7 @@ use borrow.Author.Tests.{leb-true, le-leb, lt-ltb, eqb-true, eqb-false, not-fals
 use borrow.Table.Steps.{cases}
 use Rattle.codes.specs.Code.{AllOf, writeAll}
 use Rattle.codes.specs.Number.{numberAt}
-use Rattle.blocks.specs.Block.{Block, blockLimit, formatSize, valueSize, blockFits, valuesOf, valuesSize}
+use Rattle.blocks.specs.Block.{Block, blockLimit, formatSize, valueSize, responseBlockFits, valuesOf, valuesSize}
 use Rattle.blocks.specs.Request.{Request, requestBlocks}
 use Rattle.blocks.specs.Response.{Response, isAnswer, responseBlocks, isError, hasError, errorsFit, response}
 use Rattle.blocks.specs.Page.{BlockFits, RequestFits, ResponseFits, blockBytes, responseBytes}
@@ -93,7 +93,7 @@ module _ (a : Address) (b : Block) (p : List ℕ) (P : Changed → Type 0)
       go (Elements r n) s h = elements-cases r n s h
 
 -- An error word and `40 00`: they fit where they may stand, and take at most 4 bytes.
-error-fits : (id e : ℕ) → blockFits id 0x44 1 ≡ true → e < 65536 → BlockFits id (errorBlock e)
+error-fits : (id e : ℕ) → responseBlockFits id 0x44 1 ≡ true → e < 65536 → BlockFits (responseBlockFits id) (errorBlock e)
 unfolding valueSize
 error-fits id e allowed small = record { format = lit< tt; number = lit< tt; allowed = allowed; values = (small, tt) }
 
@@ -107,14 +107,14 @@ empty-size = refl
 
 -- the blocks that stand after `used` bytes of a response, one for each of n addresses
 record Run (id used n : ℕ) (bs : List Block) : Type 0 where
-  fits : AllOf (BlockFits id) bs
+  fits : AllOf (BlockFits (responseBlockFits id)) bs
   count : length bs ≡ n
   short : used + length (writeAll blockBytes bs) ≤ blockLimit
 
 block-size : (b : Block) → length (blockBytes b) ≡ blockSize b
 block-size b = sym (block-written (b .format) (length (b .values)) (b .values) refl)
 
-one-more : (id used n : ℕ) (b : Block) (bs : List Block) → BlockFits id b → Run id (used + blockSize b) n bs → Run id used (suc n) (b ∷ bs)
+one-more : (id used n : ℕ) (b : Block) (bs : List Block) → BlockFits (responseBlockFits id) b → Run id (used + blockSize b) n bs → Run id used (suc n) (b ∷ bs)
 one-more id used n b bs f run =
     record {
       fits = (f, run .fits);
@@ -130,8 +130,8 @@ code-small U16 = lit< tt
 code-small I16 = lit< tt
 code-small I32 = lit< tt
 
-code-allowed : (k : Kind) (n : ℕ) → 1 ≤ n → blockFits 0x81 (sizeCode k) n ≡ true
-unfolding blockFits
+code-allowed : (k : Kind) (n : ℕ) → 1 ≤ n → responseBlockFits 0x81 (sizeCode k) n ≡ true
+unfolding responseBlockFits
 code-allowed U8 n h = rw (le-leb 1 n h)
 code-allowed U16 n h = rw (le-leb 1 n h)
 code-allowed I16 n h = rw (le-leb 1 n h)
@@ -145,7 +145,7 @@ elements-small : (r : Row) (i n : ℕ) (p : List ℕ) → AllOf (λ x. x < 256 ^
 elements-small r i zero p = tt
 elements-small r i (suc n) p = (rw (size-same (r .kind)) (element-small r i p), elements-small r (i + 1) n p)
 
-values-fit : (r : Row) (i n : ℕ) (p : List ℕ) → 1 ≤ n → n ≤ 255 → BlockFits 0x81 (record { format = sizeCode (r .kind); values = elementsFrom r i n p })
+values-fit : (r : Row) (i n : ℕ) (p : List ℕ) → 1 ≤ n → n ≤ 255 → BlockFits (responseBlockFits 0x81) (record { format = sizeCode (r .kind); values = elementsFrom r i n p })
 values-fit r i n p some few =
     let count = elements-count r i n p in
     record {
@@ -158,10 +158,10 @@ values-fit r i n p some few =
 -- the block for one address, with room for it and the addresses after it
 module _ (p : List ℕ) (used after : ℕ) (room : used + 4 + 4 * after ≤ blockLimit) where
   abbrev Leaves : Block → Type 0
-  Leaves b = BlockFits 0x81 b × (used + blockSize b + 4 * after ≤ blockLimit)
+  Leaves b = BlockFits (responseBlockFits 0x81) b × (used + blockSize b + 4 * after ≤ blockLimit)
 
   leaves-error : (e : ℕ) → e < 65536 → Leaves (errorBlock e)
-  unfolding blockFits
+  unfolding responseBlockFits
   leaves-error e small = (error-fits 0x81 e refl small, rw (error-size e) room)
 
   read-one : (a : Address) → Leaves (readBlock p used after a)
@@ -186,14 +186,14 @@ read-all p used (a ∷ more) room =
 
 -- A change (02): an error word or `40 00` for each address.
 abbrev Small : Block → Type 0
-Small b = BlockFits 0x82 b × (blockSize b ≤ 4)
+Small b = BlockFits (responseBlockFits 0x82) b × (blockSize b ≤ 4)
 
 small-error : (e : ℕ) → e < 65536 → Small (errorBlock e)
-unfolding blockFits
+unfolding responseBlockFits
 small-error e small = (error-fits 0x82 e refl small, omega (arith, error-size e))
 
 small-empty : Small emptyBlock
-unfolding blockFits
+unfolding responseBlockFits
 small-empty = (record { format = lit< tt; number = lit< tt; allowed = refl; values = tt }, omega (arith, empty-size))
 
 abbrev AnswerSmall : Changed → Type 0
@@ -217,8 +217,8 @@ change-all (a ∷ more) (b ∷ bs) p used e room =
     (change-all more bs (c .part) (used + blockSize (c .block)) (omega arith) (omega (arith, one .1)))
 
 -- where no block is an error, all are value blocks
-value-block : (b : Block) → BlockFits 0x81 b → isError b ≡ false → BlockFits 1 b
-unfolding blockFits
+value-block : (b : Block) → BlockFits (responseBlockFits 0x81) b → isError b ≡ false → BlockFits (responseBlockFits 1) b
+unfolding responseBlockFits
 value-block b f e =
     record {
       format = f .format;
@@ -227,7 +227,7 @@ value-block b f e =
       values = f .values;
     }
 
-no-error : (bs : List Block) → AllOf (BlockFits 0x81) bs → hasError bs ≡ false → AllOf (BlockFits 1) bs
+no-error : (bs : List Block) → AllOf (BlockFits (responseBlockFits 0x81)) bs → hasError bs ≡ false → AllOf (BlockFits (responseBlockFits 1)) bs
 unfolding hasError
 no-error [] f e = tt
 no-error (b ∷ bs) f e =

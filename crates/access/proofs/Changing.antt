@@ -10,7 +10,7 @@ use Rattle.codes.specs.Code.{Got, got, bad, andThen, readTimes}
 use Rattle.codes.specs.Number.{valueOr}
 use Rattle.codes.proofs.Put.{put-length}
 use Rattle.drive.specs.Faults.{bufferCodes}
-use Rattle.blocks.specs.Block.{Block, blockLimit, block}
+use Rattle.blocks.specs.Block.{Block, blockLimit, changeBlockFits, block}
 use Rattle.blocks.specs.Page.{blockBytes}
 use Rattle.blocks.specs.Place.{stepAt, blockAt, walk}
 use Rattle.blocks.specs.declared.Head.{Head}
@@ -29,19 +29,19 @@ use Rattle.access.proofs.Answering.{answer-short, answers-short}
 use Rattle.access.proofs.Failing.{block-in}
 
 -- blocks are left, so one stands here
-pub blocks-end : (s : List ℕ) (from left : ℕ) → 0 < left → length (blocksIn left s from) ≡ left → blockAt 2 s from ≡ Nothing → ⊥
+pub blocks-end : (s : List ℕ) (from left : ℕ) → 0 < left → length (blocksIn left s from) ≡ left → blockAt s from ≡ Nothing → ⊥
 blocks-end s from zero h w e = omega arith
 blocks-end s from (suc left) h w e =
-    let z : length (blocksIn (suc left) s from) ≡ 0 = rw (block-falls 2 s from e) in
+    let z : length (blocksIn (suc left) s from) ≡ 0 = rw (block-falls changeBlockFits s from e) in
     omega arith
 
 -- a step over the blocks that are left
-blocks-next : (s : List ℕ) (from left : ℕ) (h : Head) → blockAt 2 s from ≡ Stands h → length (blocksIn (suc left) s from) ≡ suc left → blocksIn (suc left) s from ≡ blockIn s from ∷ blocksIn left s (h .next)
+blocks-next : (s : List ℕ) (from left : ℕ) (h : Head) → blockAt s from ≡ Stands h → length (blocksIn (suc left) s from) ≡ suc left → blocksIn (suc left) s from ≡ blockIn s from ∷ blocksIn left s (h .next)
 blocks-next s from left h st w =
-    let stood = block-stands 2 s from h st in
-    let first : blocksIn (suc left) s from ≡ valueOr [] (andThen (readTimes (block 2 .read) left (drop (h .next) s)) (λ bs u. got (stood .it ∷ bs) u)) = rw (stood .read) in
+    let stood = block-stands changeBlockFits s from h st in
+    let first : blocksIn (suc left) s from ≡ valueOr [] (andThen (readTimes (block changeBlockFits .read) left (drop (h .next) s)) (λ bs u. got (stood .it ∷ bs) u)) = rw (stood .read) in
     first
-    ∙ (go (stood .it) (readTimes (block 2 .read) left (drop (h .next) s)) (ap length (sym first) ∙ w)
+    ∙ (go (stood .it) (readTimes (block changeBlockFits .read) left (drop (h .next) s)) (ap length (sym first) ∙ w)
     ∙ ap (λ (b : Block). b ∷ blocksIn left s (h .next)) (sym (block-in s from h st)))
   where
     go : (b : Block) (g : Got (List Block)) → length (valueOr [] (andThen g (λ bs u. got (b ∷ bs) u))) ≡ suc left → valueOr [] (andThen g (λ bs u. got (b ∷ bs) u)) ≡ b ∷ valueOr [] g
@@ -68,7 +68,7 @@ module _ (s : List ℕ) (n : ℕ) (p₀ out₀ p out : List ℕ) (at from : ℕ)
     abbrev after : Changes
     after = record { next = w .next; error = error; stored = so .stored + d .stored }
 
-    next-turn : stepAt s at ≡ Next a next → blockAt 2 s from ≡ Stands h → Did (changeOne a (blockIn s from) p) q d → length q ≡ length p → Wrote out m (so .next) (answerIn d) w → error ≡ (so .error || w .error) → Changing s n p₀ out₀ p out at from (suc left) so → Changing s n p₀ out₀ q m next (h .next) left after
+    next-turn : stepAt s at ≡ Next a next → blockAt s from ≡ Stands h → Did (changeOne a (blockIn s from) p) q d → length q ≡ length p → Wrote out m (so .next) (answerIn d) w → error ≡ (so .error || w .error) → Changing s n p₀ out₀ p out at from (suc left) so → Changing s n p₀ out₀ q m next (h .next) left after
     next-turn e st did kept o ee c =
         let k = walk-next s at left a next e in
         let l = blocks-next s from left h st (c .valued) in
@@ -91,7 +91,7 @@ module _ (s : List ℕ) (n : ℕ) (p₀ out₀ p out : List ℕ) (at from : ℕ)
           counts = omega (arith, did .stored, ap (λ (y : ChangedAll). y .stored) turned, c .counts);
         }
 
-  pub turn : (left : ℕ) (a : Address) (next : ℕ) (h : Head) (q m : List ℕ) (d : Done) (w : Written) (error : Bool) → 0 < left → stepAt s at ≡ Next a next → blockAt 2 s from ≡ Stands h → Did (changeOne a (blockIn s from) p) q d → length q ≡ length p → Wrote out m (so .next) (answerIn d) w → error ≡ (so .error || w .error) → Changing s n p₀ out₀ p out at from left so → Changing s n p₀ out₀ q m next (h .next) (left - 1) (record { next = w .next; error = error; stored = so .stored + d .stored })
+  pub turn : (left : ℕ) (a : Address) (next : ℕ) (h : Head) (q m : List ℕ) (d : Done) (w : Written) (error : Bool) → 0 < left → stepAt s at ≡ Next a next → blockAt s from ≡ Stands h → Did (changeOne a (blockIn s from) p) q d → length q ≡ length p → Wrote out m (so .next) (answerIn d) w → error ≡ (so .error || w .error) → Changing s n p₀ out₀ p out at from left so → Changing s n p₀ out₀ q m next (h .next) (left - 1) (record { next = w .next; error = error; stored = so .stored + d .stored })
   turn zero a next h q m d w error z e st did kept o ee c = absurd (omega arith)
   turn (suc left) a next h q m d w error z e st did kept o ee c = rw sub-one (next-turn left a next h q m d w error e st did kept o ee c)
 

@@ -8,7 +8,7 @@ use lib.Dec.{eqb}
 use lib.ListN.{length}
 use borrow.Author.Tests.{eq-eqb, ne-eqb}
 use Rattle.codes.specs.Number.{valueOr}
-use Rattle.blocks.specs.Block.{Block}
+use Rattle.blocks.specs.Block.{Block, changeBlockFits}
 use Rattle.blocks.specs.Place.{blockAt}
 use Rattle.blocks.specs.declared.Head.{Head}
 use Rattle.blocks.specs.declared.BlockAt.the-variants.{Stands}
@@ -27,15 +27,15 @@ pub did-fail : (e : ℕ) (p : List ℕ) (d : Done) → d ≡ record { failed = t
 did-fail e p d q = rw q (record { block = refl; part = refl; stored = refl; few = omega arith })
 
 -- the head that the code has is that of the block
-module _ (s : List ℕ) (at : ℕ) (h : Head) (st : blockAt 2 s at ≡ Stands h) where
-  pub block-in : blockIn s at ≡ block-stands 2 s at h st .it
-  block-in = ap (valueOr emptyBlock) (block-stands 2 s at h st .read)
+module _ (s : List ℕ) (at : ℕ) (h : Head) (st : blockAt s at ≡ Stands h) where
+  pub block-in : blockIn s at ≡ block-stands changeBlockFits s at h st .it
+  block-in = ap (valueOr emptyBlock) (block-stands changeBlockFits s at h st .read)
 
   pub head-format : h .format ≡ blockIn s at .format
-  head-format = block-stands 2 s at h st .format ∙ ap (λ (b : Block). b .format) (sym block-in)
+  head-format = block-stands changeBlockFits s at h st .format ∙ ap (λ (b : Block). b .format) (sym block-in)
 
   pub head-count : h .count ≡ length (blockIn s at .values)
-  head-count = block-stands 2 s at h st .count ∙ ap (λ (b : Block). length (b .values)) (sym block-in)
+  head-count = block-stands changeBlockFits s at h st .count ∙ ap (λ (b : Block). length (b .values)) (sym block-in)
 
 -- what the checks of the address say decides
 pub change-is : (a : Address) (b : Block) (p m : List ℕ) (d : Done) (c : Checked) → c ≡ checked a → Did (ofChecked a b p c) m d → Did (changeOne a b p) m d

@@ -12,7 +12,7 @@ use lib.Seq.{drop-drop}
 use borrow.Author.Tests.{eqb-true, not-true}
 use Rattle.codes.specs.Code.{Got, got, bad, AllOf, readable}
 use Rattle.codes.specs.Number.{numberAt}
-use Rattle.blocks.specs.Block.{Block, blockLimit}
+use Rattle.blocks.specs.Block.{Block, blockLimit, changeBlockFits}
 use Rattle.blocks.specs.Request.{Request, request}
 use Rattle.blocks.specs.Response.{response}
 use Rattle.blocks.specs.Page.{BlockFits, RequestFits}
@@ -34,7 +34,7 @@ use Rattle.access.specs.Change.{Changed, storeFrom, changeOne, changeAll
 use Rattle.access.specs.Work.{Worked, worked, Outcome, takenIf, outcomeOf}
 use Rattle.access.specs.Laws.{ReadKeeps, Names, Asked, Allowed, Kept, OnlyAskedChanges, RequestKeepsWellFormed, BlockKeepsWellFormed}
 use Rattle.access.proofs.Checks.{pick}
-use Rattle.access.proofs.Answers.{Stores, change-cases, is-change, answer-readable, answer-axis}
+use Rattle.access.proofs.Answers.{Stores, change-cases, answer-readable, answer-axis}
 
 pub read-keeps : ReadKeeps
 unfolding worked
@@ -102,7 +102,7 @@ module _ (r : Row) (m : List·Memᴰ r rows) where
 abbrev AskedBy : Address → Row → ℕ → Type 0
 AskedBy a q j = Names a q j × (q .writable ≡ true)
 
-change-kept : (a : Address) (b : Block) → BlockFits 2 b → (p : List ℕ) → Kept (AskedBy a) p (changeOne a b p .part)
+change-kept : (a : Address) (b : Block) → BlockFits changeBlockFits b → (p : List ℕ) → Kept (AskedBy a) p (changeOne a b p .part)
 change-kept a b g p = change-cases a b p (λ c. Kept (AskedBy a) p (c .part)) (λ e small. kept-none p) stores
   where
     stores : (r : Row) (n : ℕ) → Stores a b r n → Kept (AskedBy a) p (storeFrom r (a .subindex) (b .values) p .part)
@@ -115,7 +115,7 @@ change-kept a b g p = change-cases a b p (λ c. Kept (AskedBy a) p (c .part)) (�
         ))
         (store-kept r (s .named .row) (a .subindex) (b .values) p (omega (arith, s .count, s .named .room)) small)
 
-pub all-kept : (them : List Address) (bs : List Block) (p : List ℕ) → AllOf (BlockFits 2) bs → Kept (Asked them) p (changeAll them bs p .part)
+pub all-kept : (them : List Address) (bs : List Block) (p : List ℕ) → AllOf (BlockFits changeBlockFits) bs → Kept (Asked them) p (changeAll them bs p .part)
 all-kept [] bs p g = kept-none p
 all-kept (a ∷ more) [] p g = kept-none p
 all-kept (a ∷ more) (b ∷ bs) p g =
@@ -130,7 +130,7 @@ unfolding worked
 only-asked-changes r p f =
     pick (λ (w : Worked). Kept (Asked (r .addresses)) p (w .part)) (eqb (r .identifier) 1)
     (λ e. kept-none p)
-    (λ e. all-kept (r .addresses) (r .blocks) p (rw (is-change r f e) at (f .blocks)))
+    (λ e. all-kept (r .addresses) (r .blocks) p (f .blocks))
 
 -- A well-formed part stays well-formed.
 and-map : {a b c d : Bool} → (a ≡ true → c ≡ true) → (b ≡ true → d ≡ true) → a && b ≡ true → c && d ≡ true

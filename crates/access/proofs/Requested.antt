@@ -10,7 +10,7 @@ use Rattle.codes.specs.Code.{got, readTimes, readable}
 use Rattle.codes.specs.Number.{valueOr}
 use Rattle.codes.proofs.Demand.{readable-read}
 use Rattle.blocks.specs.declared.Header.{Header}
-use Rattle.blocks.specs.Block.{blockLimit, block}
+use Rattle.blocks.specs.Block.{blockLimit, changeBlockFits, block}
 use Rattle.blocks.specs.Page.{RequestFits}
 use Rattle.blocks.specs.Place.{headerOf, addressesEnd, walk}
 use Rattle.blocks.specs.Request.{Request, request, requestBlocks}
@@ -63,7 +63,7 @@ module _ (s : List ℕ) (e : readable blockLimit request s ≡ true) where
       unfolding requestBlocks
       blocks-are =
           let b = blocks-read s r [] request-read in
-          let c : readTimes (block 2 .read) (length (r .addresses)) (drop (addressesEnd s) s) ≡ got (r .blocks) [] = rw is-change at b in
+          let c : readTimes (block changeBlockFits .read) (length (r .addresses)) (drop (addressesEnd s) s) ≡ got (r .blocks) [] = rw is-change at b in
           let place : 4 + h .count * 6 ≡ addressesEnd s = ap (λ (k : ℕ). 4 + k * 6) count-is ∙ sym (addresses-end s r [] request-read) in
           ap (blocksIn (h .count) s) place ∙ (ap (λ (k : ℕ). blocksIn k s (addressesEnd s)) count-is ∙ ap (valueOr []) c)
 

@@ -11,7 +11,7 @@ use lib.Seq.{drop-cons}
 use Rattle.codes.specs.Code.{Got, got, bad}
 use Rattle.codes.specs.Number.{valueOr}
 use Rattle.drive.specs.Faults.{bufferCodes}
-use Rattle.blocks.specs.Block.{Block, block}
+use Rattle.blocks.specs.Block.{Block, changeBlockFits, block}
 use Rattle.blocks.specs.Place.{valueIn, valueAt}
 use Rattle.catalogue.specs.declared.Row.{Row}
 use Rattle.catalogue.specs.Element.{inside, putElement}
@@ -22,7 +22,7 @@ use Rattle.access.specs.Walk.{blockIn, Did}
 -- the value that the code takes is the j-th of the block
 pub value-is : (s : List ℕ) (at j : ℕ) → valueAt s at j ≡ getD (blockIn s at .values) j 0
 unfolding valueAt
-value-is s at j = go (block 2 .read (drop at s))
+value-is s at j = go (block changeBlockFits .read (drop at s))
   where
     go : (g : Got Block) → valueIn j g ≡ getD (valueOr emptyBlock g .values) j 0
     go (got b t) = refl

@@ -7,7 +7,7 @@ use Prim.Native.Nat.{ℕ, zero, suc, _+_, _-_, _^_, _≤_, _<_}
 use native.Mathlib.Omega.{arith}
 use lib.ListN.{length, getD}
 use Rattle.codes.specs.Code.{AllOf}
-use Rattle.blocks.specs.Block.{Block}
+use Rattle.blocks.specs.Block.{Block, changeBlockFits}
 use Rattle.blocks.specs.Request.{Request}
 use Rattle.blocks.specs.Response.{isError}
 use Rattle.blocks.specs.Page.{BlockFits}
@@ -69,7 +69,7 @@ store-few r i (x ∷ xs) p =
     (λ t. omega arith)
 
 -- one address with its block of values: an element that it stored is one of its row's, and is there
-module _ (a : Address) (b : Block) (g : BlockFits 2 b) (p : List ℕ) (long : parameterBytes ≤ length p)
+module _ (a : Address) (b : Block) (g : BlockFits changeBlockFits b) (p : List ℕ) (long : parameterBytes ≤ length p)
     (q : Row) (e : findOf (a .pnu) ≡ At q) (j : ℕ) (low : a .subindex ≤ j) where
   There : Changed → Type 0
   There c = j < a .subindex + c .stored → (j < q .count) × (elementOf q j (c .part) ≡ getD (b .values) (j - a .subindex) 0)
@@ -107,8 +107,7 @@ unfolding worked There parameterBytes rows
 stored-is-there r p fits two size t q j s none =
     let mid : List ℕ = changeAll (t .earlier) (t .earlierBlocks) p .part in
     let next : List ℕ = changeOne (t .address) (t .block) mid .part in
-    let blocks : AllOf (BlockFits 2) (r .blocks) = subst (λ (n : ℕ). AllOf (BlockFits n) (r .blocks)) two (fits .blocks) in
-    let bs : AllOf (BlockFits 2) (t .block ∷ t .laterBlocks) = all-after (BlockFits 2) (t .earlierBlocks) _ (subst (AllOf (BlockFits 2)) (t .blocks) blocks) in
+    let bs : AllOf (BlockFits changeBlockFits) (t .block ∷ t .laterBlocks) = all-after (BlockFits changeBlockFits) (t .earlierBlocks) _ (subst (AllOf (BlockFits changeBlockFits)) (t .blocks) (fits .blocks)) in
     let here = change-there (t .address) (t .block) (bs .0) mid (omega (arith, size, change-length (t .earlier) (t .earlierBlocks) p)) q (s .found) j (s .low) (s .high) in
     let whole : worked r p .part ≡ changeAll (t .later) (t .laterBlocks) next .part =
         rw (two, t .addresses, t .blocks) (change-then (t .earlier) (t .address ∷ t .later) (t .earlierBlocks) (t .block ∷ t .laterBlocks) p (t .level)) in

@@ -7,7 +7,7 @@ use lib.ListN.{length, drop}
 use Rattle.codes.specs.Code.{readTimes, writeAll}
 use Rattle.codes.specs.Number.{valueOr, put}
 use Rattle.drive.specs.Faults.{bufferCodes}
-use Rattle.blocks.specs.Block.{Block, block}
+use Rattle.blocks.specs.Block.{Block, changeBlockFits, block}
 use Rattle.blocks.specs.Page.{blockBytes}
 use Rattle.blocks.specs.Request.{Request, request}
 use Rattle.blocks.specs.Response.{isError, hasError, response}
@@ -33,10 +33,10 @@ pub record WroteAll (l m : List ℕ) (at : ℕ) (bs : List Block) (w : Written) 
 
 -- the block of a change at a place, and n of them in a row; none where they are not readable
 abbrev pub blockIn : List ℕ → ℕ → Block
-blockIn s at = valueOr emptyBlock (block 2 .read (drop at s))
+blockIn s at = valueOr emptyBlock (block changeBlockFits .read (drop at s))
 
 abbrev pub blocksIn : ℕ → List ℕ → ℕ → List Block
-blocksIn n s at = valueOr [] (readTimes (block 2 .read) n (drop at s))
+blocksIn n s at = valueOr [] (readTimes (block changeBlockFits .read) n (drop at s))
 
 -- how an address of a change is answered
 abbrev pub answerIn : Done → Block

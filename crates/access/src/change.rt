@@ -92,7 +92,7 @@ fn change_elements(
     at: usize,
     h: Head,
 ) -> Done
-    requires { ⌜ (a .subindex + n ≤ bufferCodes) × (blockAt 2 (now block) at ≡ Stands h) ⌝ }
+    requires { ⌜ (a .subindex + n ≤ bufferCodes) × (blockAt (now block) at ≡ Stands h) ⌝ }
     ensures { λ d. ⌜ Did (ofElements a (blockIn (now (block .entry)) at) (now (part .entry)) r n) (now (part .exit)) d ⌝ }
 {
     if !r.writable {
@@ -110,7 +110,7 @@ fn change_elements(
 
 // One address, with its block of values.
 fn change_one(part: &mut [u8], a: Address, block: &[u8], at: usize, h: Head) -> Done
-    requires { ⌜ blockAt 2 (now block) at ≡ Stands h ⌝ }
+    requires { ⌜ blockAt (now block) at ≡ Stands h ⌝ }
     ensures { λ d. ⌜ Did (changeOne a (blockIn (now (block .entry)) at) (now (part .entry))) (now (part .exit)) d ⌝ }
 {
     let c = super::address::check(a);
@@ -153,7 +153,7 @@ pub(crate) fn change_all(part: &mut [u8], block: &[u8], n: usize, out: &mut [u8]
         let Step::Next(a, next) = s else {
             return all;
         };
-        let b = blocks::block_at(block, from, 2);
+        let b = blocks::block_at(block, from);
         let BlockAt::Stands(h) = b else {
             return all;
         };

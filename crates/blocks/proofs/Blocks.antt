@@ -18,8 +18,9 @@ use Rattle.codes.proofs.Number.{number-is}
 use Rattle.codes.proofs.Put.{word-length}
 use Rattle.blocks.specs.declared.Head.{Head}
 use Rattle.blocks.specs.declared.BlockAt.the-variants.{Stands, Nothing}
-use Rattle.blocks.specs.Block.{Block, oneByte, twoBytes, fourBytes, formatSize, valueSize, blockFits, valuesOf, valuesSize, block}
+use Rattle.blocks.specs.Block.{Block, oneByte, twoBytes, fourBytes, formatSize, valueSize, changeBlockFits, valuesOf, valuesSize, block}
 use Rattle.blocks.specs.Place.{headOf, blockAt, valueAt}
+use Rattle.blocks.specs.Walk.{blockBy}
 use Rattle.blocks.proofs.Sound.{block-sound, values-sound, values-count}
 
 -- no value is wider than four bytes
@@ -45,16 +46,15 @@ unfolding valuesOf
 fixed-values f n = rw (values-size f n) (fixed-times (word (valueSize f)) (valueSize f) (fixed-word (valueSize f)) n)
 
 -- The block at a place: two bytes, the format and the count, and then the values.
-module _ (id : ℕ) (s : List ℕ) (b : Bytes s) (at : ℕ) where
-  nothing : block id .read (drop at s) ≡ bad → Nothing ≡ blockAt id s at
-  unfolding blockAt
+module _ (fits : ℕ → ℕ → Bool) (s : List ℕ) (b : Bytes s) (at : ℕ) where
+  nothing : block fits .read (drop at s) ≡ bad → Nothing ≡ blockBy fits s at
   nothing e = rw e
 
-  pub block-stub : length s < at + 2 → Nothing ≡ blockAt id s at
+  pub block-stub : length s < at + 2 → Nothing ≡ blockBy fits s at
   unfolding block
   block-stub k = nothing (go (decLe (at + 1) (length s)))
     where
-      go : Dec (at + 1 ≤ length s) → block id .read (drop at s) ≡ bad
+      go : Dec (at + 1 ≤ length s) → block fits .read (drop at s) ≡ bad
       go (yes y) = rw (byte-at s b at (omega arith), byte-end s (at + 1) (omega arith))
       go (no n) = rw (byte-end s at (omega arith))
 
@@ -65,21 +65,21 @@ module _ (id : ℕ) (s : List ℕ) (b : Bytes s) (at : ℕ) where
     abbrev n : ℕ
     n = getD s (at + 1) 0
 
-    pub block-unfit : blockFits id f n ≡ false → Nothing ≡ blockAt id s at
+    pub block-unfit : fits f n ≡ false → Nothing ≡ blockBy fits s at
     unfolding block
     block-unfit e = nothing (rw (byte-at s b at (omega arith), byte-at s b (at + 1) (omega arith), e))
 
-    module _ (e : blockFits id f n ≡ true) where
+    module _ (e : fits f n ≡ true) where
       two : at + 1 + 1 ≡ at + 2
       two = omega arith
 
-      pub block-short : length s < at + 2 + valuesSize f n → Nothing ≡ blockAt id s at
+      pub block-short : length s < at + 2 + valuesSize f n → Nothing ≡ blockBy fits s at
       unfolding block
       block-short l =
           nothing (rw (byte-at s b at (omega arith), byte-at s b (at + 1) (omega arith), e, two, fixed-values f n .short s b (at + 2) h l))
 
-      pub block-long : at + 2 + valuesSize f n ≤ length s → Stands (record { format = f; count = n; next = at + 2 + valuesSize f n }) ≡ blockAt id s at
-      unfolding block blockAt
+      pub block-long : at + 2 + valuesSize f n ≤ length s → Stands (record { format = f; count = n; next = at + 2 + valuesSize f n }) ≡ blockBy fits s at
+      unfolding block
       block-long l =
           let v = fixed-values f n .enough s b (at + 2) l in
           let c = values-count f n (v .0) (values-sound f n .only (drop (at + 2) s) (v .0) _ (v .1) .0) in
@@ -87,22 +87,21 @@ module _ (id : ℕ) (s : List ℕ) (b : Bytes s) (at : ℕ) where
           rw (byte-at s b at (omega arith), byte-at s b (at + 1) (omega arith), e, two, v .1, c, k)
 
 -- a block that stands, as the layout reads it
-pub record Stood (id : ℕ) (s : List ℕ) (at : ℕ) (h : Head) : Type 0 where
+pub record Stood (fits : ℕ → ℕ → Bool) (s : List ℕ) (at : ℕ) (h : Head) : Type 0 where
   pub it : Block
-  pub read : block id .read (drop at s) ≡ got it (drop (h .next) s)
+  pub read : block fits .read (drop at s) ≡ got it (drop (h .next) s)
   pub format : h .format ≡ it .format
   pub count : h .count ≡ length (it .values)
   pub inside : h .next ≤ length s
 
-module _ (id : ℕ) (s : List ℕ) (at : ℕ) where
-  rest-stands : (b : Block) (t : List ℕ) → block id .read (drop at s) ≡ got b t → t ≡ drop (length s - length t) s
-  rest-stands b t e = tail-stands s at (block id .write b) t (block-sound id .only (drop at s) b t e .1)
+module _ (fits : ℕ → ℕ → Bool) (s : List ℕ) (at : ℕ) where
+  rest-stands : (b : Block) (t : List ℕ) → block fits .read (drop at s) ≡ got b t → t ≡ drop (length s - length t) s
+  rest-stands b t e = tail-stands s at (block fits .write b) t (block-sound fits .only (drop at s) b t e .1)
 
-  pub block-stands : (h : Head) → blockAt id s at ≡ Stands h → Stood id s at h
-  unfolding blockAt
-  block-stands h = go (block id .read (drop at s)) refl
+  pub block-stands : (h : Head) → blockBy fits s at ≡ Stands h → Stood fits s at h
+  block-stands h = go (block fits .read (drop at s)) refl
     where
-      go : (g : Got Block) → block id .read (drop at s) ≡ g → headOf (length s) g ≡ Stands h → Stood id s at h
+      go : (g : Got Block) → block fits .read (drop at s) ≡ g → headOf (length s) g ≡ Stands h → Stood fits s at h
       go (got b t) e q =
           let n : length s - length t ≡ h .next = cc in
           record {
@@ -114,29 +113,27 @@ module _ (id : ℕ) (s : List ℕ) (at : ℕ) where
           }
       go bad e q = absurd (let z : _≡_ {A = ℕ} 0 1 = cc in omega arith)
 
-  pub block-falls : blockAt id s at ≡ Nothing → block id .read (drop at s) ≡ bad
-  unfolding blockAt
-  block-falls = go (block id .read (drop at s)) refl
+  pub block-falls : blockBy fits s at ≡ Nothing → block fits .read (drop at s) ≡ bad
+  block-falls = go (block fits .read (drop at s)) refl
     where
-      go : (g : Got Block) → block id .read (drop at s) ≡ g → headOf (length s) g ≡ Nothing → block id .read (drop at s) ≡ bad
+      go : (g : Got Block) → block fits .read (drop at s) ≡ g → headOf (length s) g ≡ Nothing → block fits .read (drop at s) ≡ bad
       go (got b t) e q = absurd (let z : _≡_ {A = ℕ} 0 1 = cc in omega arith)
       go bad e q = e
 
 -- one block more of a run of blocks
-pub record BlockStep (id : ℕ) (s : List ℕ) (at n : ℕ) (b : Block) (bs : List Block) (t : List ℕ) : Type 0 where
+pub record BlockStep (fits : ℕ → ℕ → Bool) (s : List ℕ) (at n : ℕ) (b : Block) (bs : List Block) (t : List ℕ) : Type 0 where
   pub head : Head
-  pub stands : blockAt id s at ≡ Stands head
+  pub stands : blockBy fits s at ≡ Stands head
   pub format : head .format ≡ b .format
   pub count : head .count ≡ length (b .values)
   pub inside : head .next ≤ length s
-  pub read : block id .read (drop at s) ≡ got b (drop (head .next) s)
-  pub rest : readTimes (block id .read) n (drop (head .next) s) ≡ got bs t
+  pub read : block fits .read (drop at s) ≡ got b (drop (head .next) s)
+  pub rest : readTimes (block fits .read) n (drop (head .next) s) ≡ got bs t
 
-pub block-step : (id : ℕ) (s : List ℕ) (at n : ℕ) (b : Block) (bs : List Block) (t : List ℕ) → readTimes (block id .read) (suc n) (drop at s) ≡ got (b ∷ bs) t → BlockStep id s at n b bs t
-unfolding blockAt
-block-step id s at n b bs t e =
-    let p = first-read (block id .read) n (drop at s) b bs t e in
-    let stood = rest-stands id s at b (p .0) (p .1) in
+pub block-step : (fits : ℕ → ℕ → Bool) (s : List ℕ) (at n : ℕ) (b : Block) (bs : List Block) (t : List ℕ) → readTimes (block fits .read) (suc n) (drop at s) ≡ got (b ∷ bs) t → BlockStep fits s at n b bs t
+block-step fits s at n b bs t e =
+    let p = first-read (block fits .read) n (drop at s) b bs t e in
+    let stood = rest-stands fits s at b (p .0) (p .1) in
     record {
       head = record { format = b .format; count = length (b .values); next = length s - length (p .0) };
       stands = rw (p .1);
@@ -144,45 +141,45 @@ block-step id s at n b bs t e =
       count = refl;
       inside = omega arith;
       read = p .1 ∙ ap (got b) stood;
-      rest = ap (readTimes (block id .read) n) (sym stood) ∙ p .2;
+      rest = ap (readTimes (block fits .read) n) (sym stood) ∙ p .2;
     }
 
-values-valid : (id : ℕ) (b : Block) → block id .Valid b → AllOf (word (valueSize (b .format)) .Valid) (b .values)
+values-valid : (fits : ℕ → ℕ → Bool) (b : Block) → block fits .Valid b → AllOf (word (valueSize (b .format)) .Valid) (b .values)
 unfolding block valuesOf
-values-valid id b v = v .1 .1 .0 .1
+values-valid fits b v = v .1 .1 .0 .1
 
-block-two : (id : ℕ) (b : Block) → 2 ≤ length (block id .write b)
+block-two : (fits : ℕ → ℕ → Bool) (b : Block) → 2 ≤ length (block fits .write b)
 unfolding block
-block-two id b = omega arith
+block-two fits b = omega arith
 
-values-tail : (id : ℕ) (s : List ℕ) (at : ℕ) (b : Block) (t : List ℕ) → drop at s ≡ block id .write b ++ t → drop (at + 2) s ≡ writeAll (word (valueSize (b .format)) .write) (b .values) ++ t
+values-tail : (fits : ℕ → ℕ → Bool) (s : List ℕ) (at : ℕ) (b : Block) (t : List ℕ) → drop at s ≡ block fits .write b ++ t → drop (at + 2) s ≡ writeAll (word (valueSize (b .format)) .write) (b .values) ++ t
 unfolding block valuesOf
-values-tail id s at b t e = sym (drop-drop 2 at s) ∙ (ap (drop 2) e ∙ ap (λ (l : List ℕ). l ++ t) (append-nil (writeAll (word (valueSize (b .format)) .write) (b .values))))
+values-tail fits s at b t e = sym (drop-drop 2 at s) ∙ (ap (drop 2) e ∙ ap (λ (l : List ℕ). l ++ t) (append-nil (writeAll (word (valueSize (b .format)) .write) (b .values))))
 
 -- its values all stand in the list
-pub values-inside : (id : ℕ) (s : List ℕ) (at : ℕ) (b : Block) (t : List ℕ) → block id .read (drop at s) ≡ got b t → at + 2 + length (b .values) * valueSize (b .format) ≤ length s
-values-inside id s at b t e =
-    let o = block-sound id .only (drop at s) b t e in
+pub values-inside : (fits : ℕ → ℕ → Bool) (s : List ℕ) (at : ℕ) (b : Block) (t : List ℕ) → block fits .read (drop at s) ≡ got b t → at + 2 + length (b .values) * valueSize (b .format) ≤ length s
+values-inside fits s at b t e =
+    let o = block-sound fits .only (drop at s) b t e in
     let w = valueSize (b .format) in
-    let v = ap length (values-tail id s at b t (o .1)) ∙ length-append (writeAll (word w .write) (b .values)) t in
-    omega (arith, v, all-length (word w .write) w (word-length w) (b .values), length-drop (at + 2) s, length-drop at s, ap length (o .1), length-append (block id .write b) t, block-two id b)
+    let v = ap length (values-tail fits s at b t (o .1)) ∙ length-append (writeAll (word w .write) (b .values)) t in
+    omega (arith, v, all-length (word w .write) w (word-length w) (b .values), length-drop (at + 2) s, length-drop at s, ap length (o .1), length-append (block fits .write b) t, block-two fits b)
 
 -- the j-th value of a block stands after its two bytes and j values
-pub value-stands : (id : ℕ) (s : List ℕ) (at : ℕ) (b : Block) (t : List ℕ) (j : ℕ) → block id .read (drop at s) ≡ got b t → j < length (b .values) → numberAt (valueSize (b .format)) s (at + 2 + j * valueSize (b .format)) ≡ getD (b .values) j 0
-value-stands id s at b t j e h =
+pub value-stands : (fits : ℕ → ℕ → Bool) (s : List ℕ) (at : ℕ) (b : Block) (t : List ℕ) (j : ℕ) → block fits .read (drop at s) ≡ got b t → j < length (b .values) → numberAt (valueSize (b .format)) s (at + 2 + j * valueSize (b .format)) ≡ getD (b .values) j 0
+value-stands fits s at b t j e h =
     let w = valueSize (b .format) in
-    let o = block-sound id .only (drop at s) b t e in
-    let p = item-at (word w) (word-sound w) w (word-length w) 0 (b .values) (values-valid id b (o .0)) t j h in
+    let o = block-sound fits .only (drop at s) b t e in
+    let p = item-at (word w) (word-sound w) w (word-length w) 0 (b .values) (values-valid fits b (o .0)) t j h in
     number-is w s (at + 2 + j * w) (getD (b .values) j 0) (p .0) (size-small (b .format))
-    (ap (word w .read) (sym (drop-drop (j * w) (at + 2) s) ∙ ap (drop (j * w)) (values-tail id s at b t (o .1))) ∙ p .1)
+    (ap (word w .read) (sym (drop-drop (j * w) (at + 2) s) ∙ ap (drop (j * w)) (values-tail fits s at b t (o .1))) ∙ p .1)
 
 -- the j-th value of a block of a change, by what the code knows of its head
 module _ (s : List ℕ) (at j : ℕ) where
-  pub value-nowhere : blockAt 2 s at ≡ Nothing → 0 ≡ valueAt s at j
+  pub value-nowhere : blockAt s at ≡ Nothing → 0 ≡ valueAt s at j
   unfolding valueAt
-  value-nowhere e = rw (block-falls 2 s at e)
+  value-nowhere e = rw (block-falls changeBlockFits s at e)
 
-  module _ (h : Head) (st : Stood 2 s at h) where
+  module _ (h : Head) (st : Stood changeBlockFits s at h) where
     pub value-past : h .count ≤ j → 0 ≡ valueAt s at j
     unfolding valueAt
     value-past k = rw (st .read) (sym (List·getD-eq-default (st .it .values) 0 {n = j} (omega (arith, st .count))))
@@ -193,8 +190,8 @@ module _ (s : List ℕ) (at j : ℕ) where
 
       pub value-room : at + 2 + j * z ≤ length s
       value-room =
-          omega (arith, values-inside 2 s at (st .it) (drop (h .next) s) (st .read), mul-le-mul-right {m = j} {n = length (st .it .values)} z (omega (arith, st .count)), ap (λ (x : ℕ). length (st .it .values) * x) size-is)
+          omega (arith, values-inside changeBlockFits s at (st .it) (drop (h .next) s) (st .read), mul-le-mul-right {m = j} {n = length (st .it .values)} z (omega (arith, st .count)), ap (λ (x : ℕ). length (st .it .values) * x) size-is)
 
       pub value-here : numberAt z s (at + 2 + j * z) ≡ valueAt s at j
       unfolding valueAt
-      value-here = rw (st .read, size-is) (value-stands 2 s at (st .it) (drop (h .next) s) j (st .read) (omega (arith, st .count)))
+      value-here = rw (st .read, size-is) (value-stands changeBlockFits s at (st .it) (drop (h .next) s) j (st .read) (omega (arith, st .count)))

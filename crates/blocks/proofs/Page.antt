@@ -1,7 +1,7 @@
 -- The plain page and the codes: the same values are valid, and the same bytes are written.
 use mathlib.Core.Path.{_≡_, refl, sym, ap}
 use mathlib.Core.List.{List, [], _∷_, append-nil}
-use mathlib.Core.Bool.{true, false, true≢false}
+use mathlib.Core.Bool.{Bool, true, false, true≢false}
 use mathlib.Core.Logic.{_↔_}
 use Prim.Native.Nat.{ℕ, _≤_, _<_}
 use native.Mathlib.Omega.{arith}
@@ -13,7 +13,7 @@ use Rattle.codes.specs.Code.{AllOf, writeAll, byte, within}
 use Rattle.codes.proofs.Sound.{word-valid, valid-word}
 use Rattle.codes.proofs.Demand.{both}
 use Rattle.blocks.specs.declared.reader.Address.{Address}
-use Rattle.blocks.specs.Block.{Block, block, valuesOf, valueSize}
+use Rattle.blocks.specs.Block.{Block, block, changeBlockFits, responseBlockFits, valuesOf, valueSize}
 use Rattle.blocks.specs.Request.{Request, address, request}
 use Rattle.blocks.specs.Response.{Response, response, isAnswer}
 use Rattle.blocks.specs.Page.{From, AddressFits, BlockFits, RequestFits, ResponseFits, addressBytes, blockBytes, requestBytes, responseBytes}
@@ -27,19 +27,19 @@ address-bytes : (a : Address) → address .write a ≡ addressBytes a
 unfolding address
 address-bytes a = refl
 
-pub block-bytes : (id : ℕ) (b : Block) → block id .write b ≡ blockBytes b
+pub block-bytes : (fits : ℕ → ℕ → Bool) (b : Block) → block fits .write b ≡ blockBytes b
 unfolding block valuesOf
-block-bytes id b = ap (λ (l : List ℕ). b .format ∷ length (b .values) ∷ l) (append-nil _)
+block-bytes fits b = ap (λ (l : List ℕ). b .format ∷ length (b .values) ∷ l) (append-nil _)
 
 pub request-bytes : (r : Request) → request .write r ≡ requestBytes r
 unfolding request
 request-bytes r =
-    rw (append-nil, same-all (address .write) addressBytes address-bytes (r .addresses), same-all (block (r .identifier) .write) blockBytes (block-bytes (r .identifier)) (r .blocks))
+    rw (append-nil, same-all (address .write) addressBytes address-bytes (r .addresses), same-all (block changeBlockFits .write) blockBytes (block-bytes changeBlockFits) (r .blocks))
 
 pub response-bytes : (r : Response) → response .write r ≡ responseBytes r
 unfolding response
 response-bytes r =
-    rw (append-nil, same-all (block (r .identifier) .write) blockBytes (block-bytes (r .identifier)) (r .blocks))
+    rw (append-nil, same-all (block (responseBlockFits (r .identifier)) .write) blockBytes (block-bytes (responseBlockFits (r .identifier))) (r .blocks))
 
 -- the values
 all-map : {A : Type 0} (P Q : A → Type 0) → ((a : A) → P a → Q a) → (xs : List A) → AllOf P xs → AllOf Q xs
@@ -67,9 +67,9 @@ address-valid a = (
   λ h. (byte-valid _ .1 (h .attribute), (byte-valid _ .1 (h .elements), (valid-word 2 _ (h .pnu), (valid-word 2 _ (h .subindex), refl)))),
 )
 
-pub block-valid : (id : ℕ) (b : Block) → block id .Valid b ↔ BlockFits id b
+pub block-valid : (fits : ℕ → ℕ → Bool) (b : Block) → block fits .Valid b ↔ BlockFits fits b
 unfolding block valuesOf
-block-valid id b = (
+block-valid fits b = (
   λ v. record {
     format = byte-valid _ .0 (v .0);
     number = byte-valid _ .0 (v .1 .0 .0);
@@ -89,7 +89,7 @@ request-valid r = (
     number = within-valid 1 39 _ (omega arith) .0 (v .1 .1 .1 .0);
     addresses = all-map _ _ (λ a. address-valid a .0) (r .addresses) (v .1 .1 .1 .1 .0 .1);
     count = v .1 .1 .1 .1 .1 .0 .0;
-    blocks = all-map _ _ (λ b. block-valid (r .identifier) b .0) (r .blocks) (v .1 .1 .1 .1 .1 .0 .1);
+    blocks = all-map _ _ (λ b. block-valid changeBlockFits b .0) (r .blocks) (v .1 .1 .1 .1 .1 .0 .1);
   },
   λ h. (
     within-valid 1 255 _ (omega arith) .1 (h .reference),
@@ -102,7 +102,7 @@ request-valid r = (
           (
             (refl, all-map _ _ (λ a. address-valid a .1) (r .addresses) (h .addresses)),
             (
-              (h .count, all-map _ _ (λ b. block-valid (r .identifier) b .1) (r .blocks) (h .blocks)),
+              (h .count, all-map _ _ (λ b. block-valid changeBlockFits b .1) (r .blocks) (h .blocks)),
               refl,
             ),
           ),
@@ -131,7 +131,7 @@ response-valid r = (
     axis = byte-valid _ .0 (v .1 .1 .0);
     number = within-valid 1 39 _ (omega arith) .0 (v .1 .1 .1 .0);
     count = v .1 .1 .1 .1 .0 .0 .0;
-    blocks = all-map _ _ (λ b. block-valid (r .identifier) b .0) (r .blocks) (v .1 .1 .1 .1 .0 .0 .1);
+    blocks = all-map _ _ (λ b. block-valid (responseBlockFits (r .identifier)) b .0) (r .blocks) (v .1 .1 .1 .1 .0 .0 .1);
     errors = v .1 .1 .1 .1 .0 .1;
   },
   λ h. (
@@ -143,7 +143,7 @@ response-valid r = (
         (
           within-valid 1 39 _ (omega arith) .1 (h .number),
           (
-            ((h .count, all-map _ _ (λ b. block-valid (r .identifier) b .1) (r .blocks) (h .blocks)), h .errors),
+            ((h .count, all-map _ _ (λ b. block-valid (responseBlockFits (r .identifier)) b .1) (r .blocks) (h .blocks)), h .errors),
             refl,
           ),
         ),

@@ -8,7 +8,7 @@ use lib.ListN.{length, getD, drop}
 use lib.Dec.{leb}
 use borrow.Author.Tests.{le-leb, lt-leb}
 use Rattle.codes.specs.Code.{Got, got, bad, Code, andThen, readTimes, times, isWhole, readsAll}
-use Rattle.blocks.specs.Block.{blockLimit, Block, block}
+use Rattle.blocks.specs.Block.{blockLimit, Block, changeBlockFits, responseBlockFits, block}
 use Rattle.blocks.specs.Request.{Request, address, request, requestBlocks}
 use Rattle.blocks.specs.Response.{Response, response, hasError, errorsFit, responseBlocks, isAnswer}
 use Rattle.codes.specs.Code.{readable}
@@ -114,12 +114,12 @@ module _ (s : List ℕ) (b : Bytes s) (h : 4 ≤ length s) where
             unread request s
             (rw (byte-at s b 0 (omega arith), e0, byte-at s b 1 (omega arith), e1, byte-at s b 2 (omega arith), byte-at s b 3 (omega arith), e3, addresses .short s b 4 h l))
 
-        pub request-end : length s ≤ 240 → 4 + getD s 3 0 * 6 ≤ length s → (g : Got Bool) → g ≡ mapGot hasError (readTimes (block (getD s 1 0) .read) (requestBlocks (getD s 1 0) (getD s 3 0)) (drop (4 + getD s 3 0 * 6) s)) → isWhole (erring false g) ≡ readable blockLimit request s
+        pub request-end : length s ≤ 240 → 4 + getD s 3 0 * 6 ≤ length s → (g : Got Bool) → g ≡ mapGot hasError (readTimes (block changeBlockFits .read) (requestBlocks (getD s 1 0) (getD s 3 0)) (drop (4 + getD s 3 0 * 6) s)) → isWhole (erring false g) ≡ readable blockLimit request s
         unfolding request
         request-end m l g q =
             decided request s m _
             (rw (byte-at s b 0 (omega arith), e0, byte-at s b 1 (omega arith), e1, byte-at s b 2 (omega arith), byte-at s b 3 (omega arith), e3, addresses .enough s b 4 l .1, q)
-            (end-free _ (readTimes (block (getD s 1 0) .read) (requestBlocks (getD s 1 0) (getD s 3 0)) (drop (4 + getD s 3 0 * 6) s))))
+            (end-free _ (readTimes (block changeBlockFits .read) (requestBlocks (getD s 1 0) (getD s 3 0)) (drop (4 + getD s 3 0 * 6) s))))
 
     module _ (e1 : isAnswer (getD s 1 0) ≡ true) where
       pub response-number : inside 1 39 (getD s 3 0) ≡ false → false ≡ readable blockLimit response s
@@ -128,9 +128,9 @@ module _ (s : List ℕ) (b : Bytes s) (h : 4 ≤ length s) where
           unread response s
           (rw (byte-at s b 0 (omega arith), e0, byte-at s b 1 (omega arith), e1, byte-at s b 2 (omega arith), byte-at s b 3 (omega arith), e3))
 
-      pub response-end : inside 1 39 (getD s 3 0) ≡ true → length s ≤ 240 → (g : Got Bool) → g ≡ mapGot hasError (readTimes (block (getD s 1 0) .read) (responseBlocks (getD s 1 0) (getD s 3 0)) (drop 4 s)) → isWhole (erring (leb 0x81 (getD s 1 0)) g) ≡ readable blockLimit response s
+      pub response-end : inside 1 39 (getD s 3 0) ≡ true → length s ≤ 240 → (g : Got Bool) → g ≡ mapGot hasError (readTimes (block (responseBlockFits (getD s 1 0)) .read) (responseBlocks (getD s 1 0) (getD s 3 0)) (drop 4 s)) → isWhole (erring (leb 0x81 (getD s 1 0)) g) ≡ readable blockLimit response s
       unfolding response errorsFit
       response-end e3 m g q =
           decided response s m _
           (rw (byte-at s b 0 (omega arith), e0, byte-at s b 1 (omega arith), e1, byte-at s b 2 (omega arith), byte-at s b 3 (omega arith), e3, q)
-          (end-need _ (leb 0x81 (getD s 1 0)) (readTimes (block (getD s 1 0) .read) (responseBlocks (getD s 1 0) (getD s 3 0)) (drop 4 s))))
+          (end-need _ (leb 0x81 (getD s 1 0)) (readTimes (block (responseBlockFits (getD s 1 0)) .read) (responseBlocks (getD s 1 0) (getD s 3 0)) (drop 4 s))))

@@ -14,7 +14,7 @@ use Rattle.codes.proofs.Items.{all-length}
 use Rattle.codes.proofs.Number.{number-is}
 use Rattle.blocks.specs.declared.Header.{Header}
 use Rattle.blocks.specs.declared.reader.Address.{Address}
-use Rattle.blocks.specs.Block.{block}
+use Rattle.blocks.specs.Block.{changeBlockFits, block}
 use Rattle.blocks.specs.Request.{Request, address, requestBlocks, request}
 use Rattle.blocks.specs.Response.{Response, response}
 use Rattle.blocks.specs.Place.{headerOf, addressesEnd}
@@ -54,11 +54,11 @@ module _ (s : List ℕ) (r : Request) (t : List ℕ) (e : request .read s ≡ go
 
   -- the bytes of its blocks of values, and what follows the request
   abbrev after : List ℕ
-  after = (writeAll (block (r .identifier) .write) (r .blocks) ++ []) ++ t
+  after = (writeAll (block changeBlockFits .write) (r .blocks) ++ []) ++ t
 
   laid : drop 4 s ≡ writeAll (address .write) (r .addresses) ++ after
   unfolding request
-  laid = ap (drop 4) (request-sound .only s r t e .1) ∙ append-assoc (writeAll (address .write) (r .addresses)) (writeAll (block (r .identifier) .write) (r .blocks) ++ []) t
+  laid = ap (drop 4) (request-sound .only s r t e .1) ∙ append-assoc (writeAll (address .write) (r .addresses)) (writeAll (block changeBlockFits .write) (r .blocks) ++ []) t
 
   rest-laid : drop (addressesEnd s) s ≡ after
   rest-laid =
@@ -74,11 +74,11 @@ module _ (s : List ℕ) (r : Request) (t : List ℕ) (e : request .read s ≡ go
       ∙ (times-sound address address-sound (length (r .addresses)) .back (r .addresses) after (valid .1 .1 .1 .1 .0) ∙ ap (got (r .addresses)) (sym rest-laid))
 
   -- and its blocks of values from there on
-  pub blocks-read : readTimes (block (r .identifier) .read) (requestBlocks (r .identifier) (length (r .addresses))) (drop (addressesEnd s) s) ≡ got (r .blocks) t
+  pub blocks-read : readTimes (block changeBlockFits .read) (requestBlocks (r .identifier) (length (r .addresses))) (drop (addressesEnd s) s) ≡ got (r .blocks) t
   unfolding request
   blocks-read =
-      ap (readTimes (block (r .identifier) .read) (requestBlocks (r .identifier) (length (r .addresses)))) (rest-laid ∙ ap (λ (l : List ℕ). l ++ t) (append-nil (writeAll (block (r .identifier) .write) (r .blocks))))
-      ∙ times-sound (block (r .identifier)) (block-sound (r .identifier)) (requestBlocks (r .identifier) (length (r .addresses))) .back (r .blocks) t (valid .1 .1 .1 .1 .1 .0)
+      ap (readTimes (block changeBlockFits .read) (requestBlocks (r .identifier) (length (r .addresses)))) (rest-laid ∙ ap (λ (l : List ℕ). l ++ t) (append-nil (writeAll (block changeBlockFits .write) (r .blocks))))
+      ∙ times-sound (block changeBlockFits) (block-sound changeBlockFits) (requestBlocks (r .identifier) (length (r .addresses))) .back (r .blocks) t (valid .1 .1 .1 .1 .1 .0)
 
 -- a response that is read
 module _ (s : List ℕ) (r : Response) (t : List ℕ) (e : response .read s ≡ got r t) where

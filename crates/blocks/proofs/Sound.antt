@@ -1,11 +1,12 @@
 -- The layouts are sound codes: what is read is what can be written.
 use mathlib.Core.Path.{_≡_, ap}
 use mathlib.Core.List.{List}
+use mathlib.Core.Bool.{Bool}
 use lib.ListN.{length}
 use Prim.Native.Nat.{ℕ}
 use Rattle.codes.proofs.Sound.{Sound, field-sound, give-sound, byte-sound, word-sound, within-sound, check-sound, times-sound}
 use Rattle.blocks.specs.declared.reader.Address.{Address}
-use Rattle.blocks.specs.Block.{Block, block, blockFits, valuesOf, valueSize}
+use Rattle.blocks.specs.Block.{Block, block, changeBlockFits, responseBlockFits, valuesOf, valueSize}
 use Rattle.blocks.specs.Request.{Request, address, request, requestBlocks}
 use Rattle.blocks.specs.Response.{Response, response, responseBlocks, errorsFit}
 
@@ -31,11 +32,11 @@ pub values-count : (f n : ℕ) (vs : List ℕ) → valuesOf f n .Valid vs → le
 unfolding valuesOf
 values-count f n vs v = v .0
 
-pub block-sound : (id : ℕ) → Sound (block id)
+pub block-sound : (fits : ℕ → ℕ → Bool) → Sound (block fits)
 unfolding block
-block-sound id =
+block-sound fits =
     field-sound _ _ _ byte-sound
-    (λ f. field-sound _ _ _ (check-sound (blockFits id f) _ byte-sound)
+    (λ f. field-sound _ _ _ (check-sound (fits f) _ byte-sound)
     (λ n. field-sound _ _ _ (values-sound f n)
     (λ vs. give-sound (record { format = f; values = vs }))
     (λ vs b v w. ap (λ (z : Block). z .values) w))
@@ -50,7 +51,7 @@ request-sound =
     (λ id. field-sound _ _ _ byte-sound
     (λ ax. field-sound _ _ _ (within-sound 1 39)
     (λ n. field-sound _ _ _ (times-sound _ address-sound n)
-    (λ ads. field-sound _ _ _ (times-sound _ (block-sound id) (requestBlocks id n))
+    (λ ads. field-sound _ _ _ (times-sound _ (block-sound changeBlockFits) (requestBlocks id n))
     (λ bls. give-sound (record { reference = re; identifier = id; axis = ax; addresses = ads; blocks = bls }))
     (λ bls r v w. ap (λ (z : Request). z .blocks) w))
     (λ ads r v w. ap (λ (z : Request). z .addresses) (w .1)))
@@ -66,7 +67,7 @@ response-sound =
     (λ re. field-sound _ _ _ (check-sound _ _ byte-sound)
     (λ id. field-sound _ _ _ byte-sound
     (λ ax. field-sound _ _ _ (within-sound 1 39)
-    (λ n. field-sound _ _ _ (check-sound (errorsFit id) _ (times-sound _ (block-sound id) (responseBlocks id n)))
+    (λ n. field-sound _ _ _ (check-sound (errorsFit id) _ (times-sound _ (block-sound (responseBlockFits id)) (responseBlocks id n)))
     (λ bls. give-sound _)
     (λ bls r v w. ap (λ (z : Response). z .blocks) w))
     (λ n r v w. ap (λ (z : Response). z .count) (w .1)))

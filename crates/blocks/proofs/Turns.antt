@@ -18,8 +18,8 @@ use Rattle.blocks.specs.declared.Walk.{Walk}
 use Rattle.blocks.specs.declared.Walk.the-variants.{At}
 
 -- n blocks read from s, with the errors met before them
-abbrev pub ahead : Bool → ℕ → ℕ → List ℕ → Got Bool
-ahead error id n s = mapGot (λ bs. error || hasError bs) (readTimes (block id .read) n s)
+abbrev pub ahead : Bool → (ℕ → ℕ → Bool) → ℕ → List ℕ → Got Bool
+ahead error fits n s = mapGot (λ bs. error || hasError bs) (readTimes (block fits .read) n s)
 
 or-assoc : (a b c : Bool) → a || (b || c) ≡ (a || b) || c
 or-assoc true b c = refl
@@ -29,19 +29,19 @@ pub or-false : (a : Bool) → a || false ≡ a
 or-false true = refl
 or-false false = refl
 
-module _ (id : ℕ) (s : List ℕ) (error : Bool) where
+module _ (fits : ℕ → ℕ → Bool) (s : List ℕ) (error : Bool) where
   -- a block was read: the next turn
-  pub turn : (x : Block) (t : List ℕ) (left : ℕ) → 0 < left → block id .read s ≡ got x t → ahead (error || isError x) id (left - 1) t ≡ ahead error id left s
+  pub turn : (x : Block) (t : List ℕ) (left : ℕ) → 0 < left → block fits .read s ≡ got x t → ahead (error || isError x) fits (left - 1) t ≡ ahead error fits left s
   unfolding hasError
   turn x t zero h e = absurd (omega arith)
-  turn x t (suc l) h e = rw (sub-one, e) (tails (readTimes (block id .read) l t))
+  turn x t (suc l) h e = rw (sub-one, e) (tails (readTimes (block fits .read) l t))
     where
       tails : (g : Got (List Block)) → mapGot (λ bs. (error || isError x) || hasError bs) g ≡ mapGot (λ bs. error || hasError bs) (andThen g (λ bs u. got (x ∷ bs) u))
       tails (got bs u) = ap (λ (y : Bool). got y u) (sym (or-assoc error (isError x) (hasError bs)))
       tails bad = refl
 
   -- no block was read: nothing is
-  pub halt : (left : ℕ) → 0 < left → block id .read s ≡ bad → bad ≡ ahead error id left s
+  pub halt : (left : ℕ) → 0 < left → block fits .read s ≡ bad → bad ≡ ahead error fits left s
   halt zero h e = absurd (omega arith)
   halt (suc l) h e = rw e
 

@@ -28,11 +28,15 @@ fourBytes f = eqb f 0x43 || eqb f 4 || eqb f 7
 unfoldable pub formatSize : ℕ → ℕ
 formatSize f = cond (oneByte f) 1 (cond (twoBytes f) 2 (cond (fourBytes f) 4 0))
 
--- the same with the error word of a response, 0x44
+-- bytes of one value: the same, with the error word of a response, 0x44
 unfoldable pub valueSize : ℕ → ℕ
 valueSize f = cond (eqb f 0x44) 2 (formatSize f)
 
--- response: "0x41, 0x42 or 0x43, a count from 1 and the values; 40 00; or 44 01 and one error word"
+-- Which blocks stand in a change: "No other format" than those that have a size; with any number of values.
+unfoldable pub changeBlockFits : ℕ → ℕ → Bool
+changeBlockFits f n = ltb 0 (formatSize f)
+
+-- Which blocks stand in a response: "0x41, 0x42 or 0x43, a count from 1 and the values; 40 00; or 44 01 and one error word".
 abbrev pub valueFits : ℕ → ℕ → Bool
 valueFits f n = (eqb f 0x41 || eqb f 0x42 || eqb f 0x43) && leb 1 n
 
@@ -42,14 +46,12 @@ emptyFits f n = eqb f 0x40 && eqb n 0
 abbrev pub errorFits : ℕ → ℕ → Bool
 errorFits f n = eqb f 0x44 && eqb n 1
 
--- Which format stands with which number of values: by the identifier 02 in a change, by 01, 81 and 82 in a response.
--- "01 has value blocks only; 81 has value and error blocks; 82 has 40 00 and error blocks"
-unfoldable pub blockFits : ℕ → ℕ → ℕ → Bool
-blockFits id f n =
-    cond (eqb id 2) (ltb 0 (formatSize f))
-    (cond (eqb id 1) (valueFits f n)
+-- By its identifier: "01 has value blocks only", "81 has value and error blocks", "82 has 40 00 and error blocks"
+unfoldable pub responseBlockFits : ℕ → ℕ → ℕ → Bool
+responseBlockFits id f n =
+    cond (eqb id 1) (valueFits f n)
     (cond (eqb id 0x81) (valueFits f n || errorFits f n)
-    (emptyFits f n || errorFits f n)))
+    (emptyFits f n || errorFits f n))
 
 -- n values of the format f. "Byte values are followed by nothing, however many"
 unfoldable pub valuesOf : ℕ → ℕ → Code (List ℕ)
@@ -59,9 +61,10 @@ valuesOf f n = times n (word (valueSize f))
 unfoldable pub valuesSize : ℕ → ℕ → ℕ
 valuesSize f n = length (valuesOf f n .write (replicate n 0))
 
-unfoldable pub block : ℕ → Code Block
-block id =
+-- a block whose format and number of values pass the rule `fits`
+unfoldable pub block : (ℕ → ℕ → Bool) → Code Block
+block fits =
     field (λ b. b .format) byte (λ f.
-    field (λ b. length (b .values)) (check (blockFits id f) byte) (λ n.
+    field (λ b. length (b .values)) (check (fits f) byte) (λ n.
     field (λ b. b .values) (valuesOf f n) (λ vs.
     give (record { format = f; values = vs }))))

@@ -2,12 +2,12 @@
 -- written. The codes of Request.antt and Response.antt say exactly this (proofs/Page.antt).
 use mathlib.Core.Path.{_≡_}
 use mathlib.Core.List.{List, [], _∷_, _++_}
-use mathlib.Core.Bool.{true}
+use mathlib.Core.Bool.{Bool, true}
 use Prim.Native.Nat.{ℕ, _≤_, _<_, _/_, _%_, _^_}
 use lib.ListN.{length}
 use Rattle.codes.specs.Code.{AllOf, writeAll, word}
 use Rattle.blocks.specs.declared.reader.Address.{Address}
-use Rattle.blocks.specs.Block.{Block, valueSize, blockFits}
+use Rattle.blocks.specs.Block.{Block, valueSize, changeBlockFits, responseBlockFits}
 use Rattle.blocks.specs.Request.{Request, requestBlocks}
 use Rattle.blocks.specs.Response.{Response, isAnswer, responseBlocks, errorsFit}
 
@@ -22,10 +22,10 @@ pub record AddressFits (a : Address) : Type 0 where
   pub pnu : a .pnu < 65536
   pub subindex : a .subindex < 65536
 
-pub record BlockFits (id : ℕ) (b : Block) : Type 0 where
+pub record BlockFits (fits : ℕ → ℕ → Bool) (b : Block) : Type 0 where
   pub format : b .format < 256
   pub number : length (b .values) < 256
-  pub allowed : blockFits id (b .format) (length (b .values)) ≡ true
+  pub allowed : fits (b .format) (length (b .values)) ≡ true
   pub values : AllOf (λ x. x < 256 ^ valueSize (b .format)) (b .values)
 
 pub record RequestFits (r : Request) : Type 0 where
@@ -35,7 +35,7 @@ pub record RequestFits (r : Request) : Type 0 where
   pub number : From 1 39 (length (r .addresses))
   pub addresses : AllOf AddressFits (r .addresses)
   pub count : length (r .blocks) ≡ requestBlocks (r .identifier) (length (r .addresses))
-  pub blocks : AllOf (BlockFits (r .identifier)) (r .blocks)
+  pub blocks : AllOf (BlockFits changeBlockFits) (r .blocks)
 
 pub record ResponseFits (r : Response) : Type 0 where
   pub reference : From 1 255 (r .reference)
@@ -43,7 +43,7 @@ pub record ResponseFits (r : Response) : Type 0 where
   pub axis : r .axis < 256
   pub number : From 1 39 (r .count)
   pub count : length (r .blocks) ≡ responseBlocks (r .identifier) (r .count)
-  pub blocks : AllOf (BlockFits (r .identifier)) (r .blocks)
+  pub blocks : AllOf (BlockFits (responseBlockFits (r .identifier))) (r .blocks)
   pub errors : errorsFit (r .identifier) (r .blocks) ≡ true
 
 -- which bytes are written

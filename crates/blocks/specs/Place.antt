@@ -12,7 +12,7 @@ use Rattle.blocks.specs.declared.BlockAt.the-variants.{Stands, Nothing}
 use Rattle.blocks.specs.declared.reader.Address.{Address}
 use Rattle.blocks.specs.declared.reader.Step.{Step}
 use Rattle.blocks.specs.declared.reader.Step.the-variants.{Next, End}
-use Rattle.blocks.specs.Block.{Block, block}
+use Rattle.blocks.specs.Block.{Block, changeBlockFits, block}
 use Rattle.blocks.specs.Request.{address}
 use Rattle.blocks.specs.Page.{blockBytes}
 
@@ -34,16 +34,17 @@ abbrev pub headOf : ℕ → Got Block → BlockAt
 headOf n (got b t) = Stands (record { format = b .format; count = length (b .values); next = n - length t })
 headOf n bad = Nothing
 
-unfoldable pub blockAt : ℕ → List ℕ → ℕ → BlockAt
-blockAt id s at = headOf (length s) (block id .read (drop at s))
+-- the block of a change that stands at a place
+abbrev pub blockAt : List ℕ → ℕ → BlockAt
+blockAt s at = headOf (length s) (block changeBlockFits .read (drop at s))
 
--- the j-th value of the block of a change that stands at a place; 0 where there is none
+-- and its j-th value; 0 where there is none
 abbrev pub valueIn : ℕ → Got Block → ℕ
 valueIn j (got b t) = getD (b .values) j 0
 valueIn j bad = 0
 
 unfoldable pub valueAt : List ℕ → ℕ → ℕ → ℕ
-valueAt s at j = valueIn j (block 2 .read (drop at s))
+valueAt s at j = valueIn j (block changeBlockFits .read (drop at s))
 
 -- where the addresses of a block end: after its header and N times 6 bytes
 abbrev pub addressesEnd : List ℕ → ℕ

@@ -6,7 +6,7 @@ use lib.ListN.{length}
 use lib.Dec.{eqb}
 use Rattle.codes.specs.Code.{Code, field, give, byte, within, times, word}
 use Rattle.blocks.specs.declared.reader.Address.{Address}
-use Rattle.blocks.specs.Block.{Block, block}
+use Rattle.blocks.specs.Block.{Block, changeBlockFits, block}
 
 pub record Request : Type 0 where
   pub reference : ℕ
@@ -24,7 +24,7 @@ address =
     field (λ a. a .subindex) (word 2) (λ su.
     give (record { attribute = at; elements = el; pnu = pn; subindex = su })))))
 
--- "a request (01) ends there; a change (02) goes on with N value blocks"
+-- "A request ends there. A change goes on with N value blocks"
 unfoldable pub requestBlocks : ℕ → ℕ → ℕ
 requestBlocks id n = cond (eqb id 2) n 0
 
@@ -36,5 +36,5 @@ request =
     field (λ r. r .axis) byte (λ ax.
     field (λ r. length (r .addresses)) (within 1 39) (λ n.
     field (λ r. r .addresses) (times n address) (λ ads.
-    field (λ r. r .blocks) (times (requestBlocks id n) (block id)) (λ bls.
+    field (λ r. r .blocks) (times (requestBlocks id n) (block changeBlockFits)) (λ bls.
     give (record { reference = re; identifier = id; axis = ax; addresses = ads; blocks = bls })))))))

@@ -4,7 +4,7 @@ use mathlib.Core.Bool.{Bool, false, cond, not, _||_}
 use Prim.Native.Nat.{ℕ}
 use lib.Dec.{leb, eqb}
 use Rattle.codes.specs.Code.{Code, field, give, byte, within, check, times}
-use Rattle.blocks.specs.Block.{Block, block}
+use Rattle.blocks.specs.Block.{Block, responseBlockFits, block}
 
 pub record Response : Type 0 where
   pub reference : ℕ
@@ -39,5 +39,5 @@ response =
     field (λ r. r .identifier) (check isAnswer byte) (λ id.
     field (λ r. r .axis) byte (λ ax.
     field (λ r. r .count) (within 1 39) (λ n.
-    field (λ r. r .blocks) (check (errorsFit id) (times (responseBlocks id n) (block id))) (λ bls.
+    field (λ r. r .blocks) (check (errorsFit id) (times (responseBlocks id n) (block (responseBlockFits id)))) (λ bls.
     give (record { reference = re; identifier = id; axis = ax; count = n; blocks = bls }))))))

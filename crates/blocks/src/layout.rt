@@ -1,9 +1,16 @@
 // Formats, their sizes, and which blocks may stand where.
 ghost use mathlib.Core.Path.{_≡_};
 ghost use Prim.Native.Nat.{_≤_};
-ghost use Rattle.blocks.specs.Block.{formatSize, valueSize, valueFits, errorFits, emptyFits, blockFits, valuesSize};
+ghost use Rattle.blocks.specs.Block.{formatSize, valueSize, valueFits, errorFits, emptyFits, responseBlockFits, valuesSize};
 ghost use Rattle.blocks.specs.Request.{requestBlocks};
 ghost use Rattle.blocks.specs.Response.{responseBlocks, isAnswer};
+ghost use Rattle.blocks.specs.Walk.{ruleOf};
+
+// Whose blocks a walk meets: a change's, or those of a response with an identifier.
+pub enum Blocks {
+    OfChange,
+    OfResponse(u8),
+}
 
 // Bytes of one value, by its format; 0 where there is no such format.
 fn format_size(f: u8) -> usize
@@ -57,13 +64,10 @@ fn empty_fits(f: u8, n: u8) -> bool
     if f == 0x40 { n == 0 } else { false }
 }
 
-// Whether a block of format f with n values may stand in a change (02) or a response (01, 81, 82).
-pub fn block_fits(id: u8, f: u8, n: u8) -> bool
-    ensures { λ r. ⌜ r ≡ blockFits id f n ⌝ }
+// Whether a block of format f with n values may stand in a response with the identifier `id`.
+fn response_block_fits(id: u8, f: u8, n: u8) -> bool
+    ensures { λ r. ⌜ r ≡ responseBlockFits id f n ⌝ }
 {
-    if id == 2 {
-        return 0 < format_size(f);
-    }
     if id == 1 {
         return value_fits(f, n);
     }
@@ -72,6 +76,16 @@ pub fn block_fits(id: u8, f: u8, n: u8) -> bool
         codes::either(value_fits(f, n), e)
     } else {
         codes::either(empty_fits(f, n), e)
+    }
+}
+
+// Whether a block of format f with n values may be one of these.
+pub fn block_fits(these: Blocks, f: u8, n: u8) -> bool
+    ensures { λ r. ⌜ r ≡ ruleOf these f n ⌝ }
+{
+    match these {
+        Blocks::OfChange => 0 < format_size(f),
+        Blocks::OfResponse(id) => response_block_fits(id, f, n),
     }
 }
 

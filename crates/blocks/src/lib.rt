@@ -7,7 +7,8 @@ ghost use Rattle.blocks.specs.Block.{blockLimit, block};
 ghost use Rattle.blocks.specs.Request.{request};
 ghost use Rattle.blocks.specs.Response.{hasError, response};
 ghost use Rattle.blocks.specs.Place.{headerOf, blockAt, valueAt};
-ghost use Rattle.blocks.specs.Walk.{mapGot, standing, InBlock, Walked, erring};
+ghost use Rattle.blocks.specs.Walk.{ruleOf, blockBy, mapGot, standing, InBlock, Walked, erring};
+use layout::Blocks;
 
 mod layout;
 pub mod reader;
@@ -56,9 +57,9 @@ pub fn header_of(s: &[u8]) -> Header
     }
 }
 
-// The block of values at `at`: of a change where `id` is 02, of a response where it is 01, 81 or 82.
-pub fn block_at(s: &[u8], at: usize, id: u8) -> BlockAt
-    ensures { λ r. ⌜ r ≡ blockAt id (now (s .entry)) at ⌝ }
+// The block of values at `at`, by the rule of those that it is one of.
+fn block_by(s: &[u8], at: usize, these: Blocks) -> BlockAt
+    ensures { λ r. ⌜ r ≡ blockBy (ruleOf these) (now (s .entry)) at ⌝ }
 {
     if s.len() < 2 {
         return BlockAt::Nothing;
@@ -68,7 +69,7 @@ pub fn block_at(s: &[u8], at: usize, id: u8) -> BlockAt
     }
     let f = s[at];
     let n = s[at + 1];
-    if layout::block_fits(id, f, n) {
+    if layout::block_fits(these, f, n) {
         let bytes = layout::values_size(f, n);
         if bytes <= s.len() - 2 - at {
             let h = Head {
@@ -85,11 +86,18 @@ pub fn block_at(s: &[u8], at: usize, id: u8) -> BlockAt
     }
 }
 
+// The block of values of a change at `at`.
+pub fn block_at(s: &[u8], at: usize) -> BlockAt
+    ensures { λ r. ⌜ r ≡ blockAt (now (s .entry)) at ⌝ }
+{
+    block_by(s, at, Blocks::OfChange)
+}
+
 // The j-th value of the block of a change that stands at `at`.
 pub fn value_at(s: &[u8], at: usize, j: usize) -> u32
     ensures { λ r. ⌜ r ≡ valueAt (now (s .entry)) at j ⌝ }
 {
-    let b = block_at(s, at, 2);
+    let b = block_at(s, at);
     let BlockAt::Stands(h) = b else {
         return 0;
     };
@@ -101,16 +109,16 @@ pub fn value_at(s: &[u8], at: usize, j: usize) -> u32
     }
 }
 
-// Where n blocks that start at `from` end.
-fn blocks_end(s: &[u8], from: usize, n: usize, id: u8) -> Walk
+// Where n of these blocks that start at `from` end.
+fn blocks_end(s: &[u8], from: usize, n: usize, these: Blocks) -> Walk
     requires { ⌜ from ≤ length (now s) ⌝ }
-    ensures { λ r. ⌜ Walked (now (s .entry)) (mapGot hasError (times n (block id) .read (drop from (now (s .entry))))) r ⌝ }
+    ensures { λ r. ⌜ Walked (now (s .entry)) (mapGot hasError (times n (block (ruleOf these)) .read (drop from (now (s .entry))))) r ⌝ }
 {
     let mut at = from;
     let mut left = n;
     let mut error = false;
     while 0 < left {
-        let b = block_at(s, at, id);
+        let b = block_by(s, at, these);
         let BlockAt::Stands(h) = b else {
             return Walk::Bad;
         };
@@ -163,7 +171,7 @@ pub fn request_readable(block: &[u8]) -> bool
     }
     whole(
         block,
-        blocks_end(block, from, layout::request_blocks(id, n), id),
+        blocks_end(block, from, layout::request_blocks(id, n), Blocks::OfChange),
         false,
     )
 }
@@ -191,7 +199,12 @@ pub fn response_readable(block: &[u8]) -> bool
     }
     whole(
         block,
-        blocks_end(block, 4, layout::response_blocks(id, n), id),
+        blocks_end(
+            block,
+            4,
+            layout::response_blocks(id, n),
+            Blocks::OfResponse(id),
+        ),
         0x81 <= id,
     )
 }

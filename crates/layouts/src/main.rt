@@ -346,7 +346,7 @@ fn print_values(block: &[u8], at: usize, n: u8) {
 fn print_blocks(block: &[u8], from: usize, n: u8) {
     let mut at = from;
     for _ in 0..n {
-        let b = blocks::block_at(block, at, 2);
+        let b = blocks::block_at(block, at);
         let BlockAt::Stands(h) = b else {
             print(b"no block\n");
             return;

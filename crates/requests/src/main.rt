@@ -126,7 +126,7 @@ fn change(label: &[u8], part: Part, a: Address, format: u8, values: &[u32]) -> P
     let mut block = headed(2, 1);
     put_address(&mut block, FIRST, a);
     blocks::writer::put_block(&mut block, FIRST + 6, format, values);
-    let b = blocks::block_at(&block, FIRST + 6, 2);
+    let b = blocks::block_at(&block, FIRST + 6);
     let BlockAt::Stands(h) = b else {
         return part;
     };

@@ -2,7 +2,7 @@
 use Rattle.codes.specs.Code.{got, readTimes}
 use Rattle.blocks.specs.Block.{block}
 use Rattle.blocks.specs.Response.{isError, hasError}
-use Rattle.blocks.specs.Walk.{mapGot}
+use Rattle.blocks.specs.Walk.{ruleOf, mapGot}
 use Rattle.blocks.proofs.Blocks.{block-stands, block-falls}
 use Rattle.blocks.proofs.Turns.{ahead, turn, halt, or-false}
 use mathlib.Core.Bool.{Bool, _||_}
@@ -17,17 +17,17 @@ use Rattle.blocks.proofs.blocks_end.Statement.{statement}
 use Rattle.blocks.proofs.blocks_end.Tie as tie
 
 abbrev Inv-loop : tie.InvT-loop
-Inv-loop s from n id at₀ left₀ error₀ at left error =
-    (at ≤ length s) × (ahead error id left (drop at s) ≡ mapGot hasError (readTimes (block id .read) n (drop from s)))
+Inv-loop s from n these at₀ left₀ error₀ at left error =
+    (at ≤ length s) × (ahead error (ruleOf these) left (drop at s) ≡ mapGot hasError (readTimes (block (ruleOf these) .read) n (drop from s)))
 
 abbrev μ-loop : tie.MeasureT-loop
-μ-loop s from n id at₀ left₀ error₀ at left error = left
+μ-loop s from n these at₀ left₀ error₀ at left error = left
 
 loop-holds : tie.Need-loop-holds Inv-loop μ-loop
 loop-holds c = (search needs, refl)
 
-block-at-requires : tie.Need-block-at-requires Inv-loop μ-loop
-block-at-requires c κs = search needs
+block-by-requires : tie.Need-block-by-requires Inv-loop μ-loop
+block-by-requires c κs = search needs
 
 enum-known-b : tie.Need-enum-known-b Inv-loop μ-loop
 enum-known-b c = search needs
@@ -39,9 +39,9 @@ returns : tie.Need-returns Inv-loop μ-loop
 returns c =
     let a = c .before .before .before .before .before .before .args in
     let l = c .before .before .before .before .loop in
-    let fell = block-falls (a .id) (now (a .s)) (l .at) (sym (c .before .before .block-at .ensures) ∙ c .enum-told .given .1) in
+    let fell = block-falls (ruleOf (a .these)) (now (a .s)) (l .at) (sym (c .before .before .block-by .ensures) ∙ c .enum-told .given .1) in
     record {
-      stands = halt (a .id) (drop (l .at) (now (a .s))) (l .error) (l .left) (c .before .before .before .loop-test .taken) fell ∙ l .inv .1;
+      stands = halt (ruleOf (a .these)) (drop (l .at) (now (a .s))) (l .error) (l .left) (c .before .before .before .loop-test .taken) fell ∙ l .inv .1;
       inBlock = tt;
     }
 
@@ -60,11 +60,11 @@ loop-again c =
     let l = c .before .before .before .before .before .before .before .loop in
     let v = c .before .before .before .b .given in
     let h = v .0 .0 in
-    let stood = block-stands (a .id) (now (a .s)) (l .at) h (sym (c .before .before .before .before .before .block-at .ensures) ∙ v .1) in
+    let stood = block-stands (ruleOf (a .these)) (now (a .s)) (l .at) h (sym (c .before .before .before .before .before .block-by .ensures) ∙ v .1) in
     let error : c .either .result ≡ (l .error || isError (stood .it)) = c .either .ensures ∙ ap (λ (f : ℕ). l .error || eqb f 0x44) (stood .format) in (
       stood .inside,
-      ap (λ (x : Bool). ahead x (a .id) (l .left - 1) (drop (h .next) (now (a .s)))) error
-          ∙ turn (a .id) (drop (l .at) (now (a .s))) (l .error) (stood .it) (drop (h .next) (now (a .s))) (l .left) (c .before .before .before .before .before .before .loop-test .taken) (stood .read)
+      ap (λ (x : Bool). ahead x (ruleOf (a .these)) (l .left - 1) (drop (h .next) (now (a .s)))) error
+          ∙ turn (ruleOf (a .these)) (drop (l .at) (now (a .s))) (l .error) (stood .it) (drop (h .next) (now (a .s))) (l .left) (c .before .before .before .before .before .before .loop-test .taken) (stood .read)
           ∙ l .inv .1,
     )
 
@@ -77,7 +77,7 @@ returns-2 c =
     record {
       stands =
           ap (λ (x : Bool). got x (drop (l .at) (now (a .s)))) (sym (or-false (l .error)))
-          ∙ ap (λ (k : ℕ). ahead (l .error) (a .id) k (drop (l .at) (now (a .s)))) (sym z)
+          ∙ ap (λ (k : ℕ). ahead (l .error) (ruleOf (a .these)) k (drop (l .at) (now (a .s)))) (sym z)
           ∙ l .inv .1;
       inBlock = l .inv .0;
     }
@@ -89,7 +89,7 @@ blocks-end-spec =
     Inv-loop
     μ-loop
     loop-holds
-    block-at-requires
+    block-by-requires
     enum-known-b
     enum-told
     returns

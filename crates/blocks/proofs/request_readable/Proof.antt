@@ -2,12 +2,12 @@ use Rattle.blocks.proofs.Readable.{too-long, request-short, request-ref
 use Rattle.blocks.specs.Request.{request}
 use Rattle.blocks.specs.Walk.{mapGot, standing}
 use Rattle.codes.specs.Code.{readTimes}
-use Rattle.blocks.specs.Block.{block}
+use Rattle.blocks.specs.Block.{changeBlockFits, block}
 use Rattle.blocks.specs.Response.{hasError}
 use Rattle.codes.proofs.Fixed.{Bytes}
 use borrow.Author.Tests.{not-true, not-false}
 use Prim.Native.Nat.{ℕ, _+_, _*_}
-use lib.ListN.{getD, drop}
+use lib.ListN.{drop}
 use denote.Ref.{now}
 use mathlib.Core.Path.{sym, _∙_, ap₂}
 use native.Mathlib.Omega.{arith}
@@ -88,7 +88,7 @@ returns-7 c =
     let e = c .before .blocks-end in
     c .whole .ensures
     ∙ request-end s y (omega arith) (sym (c .before .before .before .before .before .before .before .before .before .before .between .ensures) ∙ not-false (c .before .before .before .before .before .before .before .before .before .before .between .result) (c .before .before .before .before .before .before .before .before .before .if3 .left)) (sym (c .before .before .before .before .before .before .before .before .between2 .ensures) ∙ not-false (c .before .before .before .before .before .before .before .before .between2 .result) (c .before .before .before .before .before .before .before .if4 .left)) (sym (c .before .before .before .before .before .before .between3 .ensures) ∙ not-false (c .before .before .before .before .before .before .between3 .result) (c .before .before .before .before .before .if5 .left)) (omega arith) (omega (arith, c .before .before .before .before .wide .ensures)) (standing s (e .result))
-    (e .ensures .stands ∙ ap₂ (λ (m k : ℕ). mapGot hasError (readTimes (block (getD s 1 0) .read) m (drop (4 + k * 6) s))) (c .before .before .request-blocks .ensures) (c .before .before .before .before .wide .ensures))
+    (e .ensures .stands ∙ ap₂ (λ (m k : ℕ). mapGot hasError (readTimes (block changeBlockFits .read) m (drop (4 + k * 6) s))) (c .before .before .request-blocks .ensures) (c .before .before .before .before .wide .ensures))
 
 pub request-readable-spec : {M : Type 1} → statement M
 request-readable-spec =

@@ -2,7 +2,7 @@ use Rattle.blocks.proofs.Readable.{too-long, response-short, response-r
 use Rattle.blocks.specs.Response.{response}
 use Rattle.blocks.specs.Walk.{mapGot, standing}
 use Rattle.codes.specs.Code.{readTimes}
-use Rattle.blocks.specs.Block.{block}
+use Rattle.blocks.specs.Block.{responseBlockFits, block}
 use Rattle.blocks.specs.Response.{hasError}
 use Rattle.codes.proofs.Fixed.{Bytes}
 use borrow.Author.Tests.{not-true, not-false}
@@ -73,7 +73,7 @@ returns-6 c =
     let e = c .before .blocks-end in
     c .whole .ensures
     ∙ response-end s y (omega arith) (sym (c .before .before .before .before .before .before .before .before .between .ensures) ∙ not-false (c .before .before .before .before .before .before .before .before .between .result) (c .before .before .before .before .before .before .before .if3 .left)) (sym (c .before .before .before .before .before .before .is-answer .ensures) ∙ not-false (c .before .before .before .before .before .before .is-answer .result) (c .before .before .before .before .before .if4 .left)) (sym (c .before .before .before .before .between2 .ensures) ∙ not-false (c .before .before .before .before .between2 .result) (c .before .before .before .if5 .left)) (omega arith) (standing s (e .result))
-    (e .ensures .stands ∙ ap (λ (m : ℕ). mapGot hasError (readTimes (block (getD s 1 0) .read) m (drop 4 s))) (c .before .before .response-blocks .ensures))
+    (e .ensures .stands ∙ ap (λ (m : ℕ). mapGot hasError (readTimes (block (responseBlockFits (getD s 1 0)) .read) m (drop 4 s))) (c .before .before .response-blocks .ensures))
 
 pub response-readable-spec : {M : Type 1} → statement M
 response-readable-spec =

@@ -1,4 +1,5 @@
 -- The j-th value stands after the block's two bytes and j values.
+use Rattle.blocks.specs.Block.{changeBlockFits}
 use Rattle.blocks.proofs.Blocks.{block-stands, value-nowhere, value-past, value-room, value-here}
 use mathlib.Core.Path.{sym, _∙_}
 use denote.Ref.{now}
@@ -31,7 +32,7 @@ add-number-at : tie.Need-add-number-at
 add-number-at c =
     let a = c .before .before .before .before .before .before .before .before .args in
     let v = c .before .before .before .before .b .given in
-    let st = block-stands 2 (now (a .s)) (a .at) (v .0 .0) (sym (c .before .before .before .before .before .before .block-at .ensures) ∙ v .1) in
+    let st = block-stands changeBlockFits (now (a .s)) (a .at) (v .0 .0) (sym (c .before .before .before .before .before .before .block-at .ensures) ∙ v .1) in
     let z = c .before .before .value-size in
     omega (arith, value-room (now (a .s)) (a .at) (a .j) (v .0 .0) st (z .result) (z .ensures .0) (omega arith))
 
@@ -39,7 +40,7 @@ mul-number-at : tie.Need-mul-number-at
 mul-number-at c =
     let a = c .before .before .before .before .before .before .before .before .args in
     let v = c .before .before .before .before .b .given in
-    let st = block-stands 2 (now (a .s)) (a .at) (v .0 .0) (sym (c .before .before .before .before .before .before .block-at .ensures) ∙ v .1) in
+    let st = block-stands changeBlockFits (now (a .s)) (a .at) (v .0 .0) (sym (c .before .before .before .before .before .before .block-at .ensures) ∙ v .1) in
     let z = c .before .before .value-size in
     omega (arith, value-room (now (a .s)) (a .at) (a .j) (v .0 .0) st (z .result) (z .ensures .0) (omega arith))
 
@@ -47,7 +48,7 @@ add-number-at-2 : tie.Need-add-number-at-2
 add-number-at-2 c =
     let a = c .before .before .before .before .before .before .before .before .args in
     let v = c .before .before .before .before .b .given in
-    let st = block-stands 2 (now (a .s)) (a .at) (v .0 .0) (sym (c .before .before .before .before .before .before .block-at .ensures) ∙ v .1) in
+    let st = block-stands changeBlockFits (now (a .s)) (a .at) (v .0 .0) (sym (c .before .before .before .before .before .before .block-at .ensures) ∙ v .1) in
     let z = c .before .before .value-size in
     omega (arith, value-room (now (a .s)) (a .at) (a .j) (v .0 .0) st (z .result) (z .ensures .0) (omega arith))
 
@@ -58,7 +59,7 @@ returns-2 : tie.Need-returns-2
 returns-2 c =
     let a = c .before .before .before .before .before .before .before .before .before .args in
     let v = c .before .before .before .before .before .b .given in
-    let st = block-stands 2 (now (a .s)) (a .at) (v .0 .0) (sym (c .before .before .before .before .before .before .before .block-at .ensures) ∙ v .1) in
+    let st = block-stands changeBlockFits (now (a .s)) (a .at) (v .0 .0) (sym (c .before .before .before .before .before .before .before .block-at .ensures) ∙ v .1) in
     let z = c .before .before .before .value-size in
     c .number-at .ensures ∙ value-here (now (a .s)) (a .at) (a .j) (v .0 .0) st (z .result) (z .ensures .0) (omega arith)
 
@@ -66,7 +67,7 @@ returns-3 : tie.Need-returns-3
 returns-3 c =
     let a = c .before .before .before .before .before .before .before .before .args in
     let v = c .before .before .before .before .b .given in
-    let st = block-stands 2 (now (a .s)) (a .at) (v .0 .0) (sym (c .before .before .before .before .before .before .block-at .ensures) ∙ v .1) in
+    let st = block-stands changeBlockFits (now (a .s)) (a .at) (v .0 .0) (sym (c .before .before .before .before .before .before .block-at .ensures) ∙ v .1) in
     value-past (now (a .s)) (a .at) (a .j) (v .0 .0) st (omega arith)
 
 pub value-at-spec : {M : Type 1} → statement M

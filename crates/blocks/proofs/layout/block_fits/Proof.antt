@@ -1,62 +1,36 @@
-use mathlib.Core.Bool.{Bool, _||_}
-use Prim.Native.Nat.{ℕ}
+use mathlib.Core.Path.{ap}
 use lib.Dec.{ltb}
-use mathlib.Core.Path.{_∙_, ap, ap₂}
-use Rattle.blocks.specs.Block.{blockFits}
-use borrow.Author.Tests.{eq-eqb, ne-eqb}
+use Rattle.blocks.specs.Block.{changeBlockFits}
 use borrow.Author.Needs.{needs}
 use Rattle.blocks.proofs.layout.block_fits.Statement.{statement}
 use Rattle.blocks.proofs.layout.block_fits.Tie as tie
 
+enum-told : tie.Need-enum-told
+enum-told c = search needs
+
 format-size-requires : tie.Need-format-size-requires
 format-size-requires c κs = search needs
 
-returns : tie.Need-returns
-unfolding blockFits
-returns c = simp (eq-eqb _ _ (c .before .if1 .taken)) (ap (λ (k : ℕ). ltb 0 k) (c .format-size .ensures .0))
+enum-known-these : tie.Need-enum-known-these
+enum-known-these c = search needs
 
-value-fits-requires : tie.Need-value-fits-requires
-value-fits-requires c κs = search needs
+response-block-fits-requires : tie.Need-response-block-fits-requires
+response-block-fits-requires c κs = search needs
+
+returns : tie.Need-returns
+unfolding changeBlockFits
+returns c = rw (c .before .enum-told .given .1) (ap (ltb 0) (c .format-size .ensures .0))
 
 returns-2 : tie.Need-returns-2
-unfolding blockFits
-returns-2 c = simp (ne-eqb _ _ (c .before .before .if1 .left), eq-eqb _ _ (c .before .if2 .taken)) (c .value-fits .ensures)
-
-error-fits-requires : tie.Need-error-fits-requires
-error-fits-requires c κs = search needs
-
-value-fits-requires-2 : tie.Need-value-fits-requires-2
-value-fits-requires-2 c κs = search needs
-
-either-requires : tie.Need-either-requires
-either-requires c κs = search needs
-
-empty-fits-requires : tie.Need-empty-fits-requires
-empty-fits-requires c κs = search needs
-
-either-requires-2 : tie.Need-either-requires-2
-either-requires-2 c κs = search needs
-
-returns-3 : tie.Need-returns-3
-unfolding blockFits
-returns-3 c = simp (ne-eqb _ _ (c .before .before .before .before .before .if1 .left), ne-eqb _ _ (c .before .before .before .before .if2 .left), eq-eqb _ _ (c .before .before .if3 .taken)) (c .either .ensures ∙ ap₂ (λ (x y : Bool). x || y) (c .before .value-fits2 .ensures) (c .before .before .before .error-fits .ensures))
-
-returns-4 : tie.Need-returns-4
-unfolding blockFits
-returns-4 c = simp (ne-eqb _ _ (c .before .before .before .before .before .if1 .left), ne-eqb _ _ (c .before .before .before .before .if2 .left), ne-eqb _ _ (c .before .before .if3 .left)) (c .either2 .ensures ∙ ap₂ (λ (x y : Bool). x || y) (c .before .empty-fits .ensures) (c .before .before .before .error-fits .ensures))
+returns-2 c = rw (c .before .before .these .given .1) (c .response-block-fits .ensures)
 
 pub block-fits-spec : {M : Type 1} → statement M
 block-fits-spec =
     tie.close
     (tie.spec
+    enum-told
     format-size-requires
+    enum-known-these
+    response-block-fits-requires
     returns
-    value-fits-requires
-    returns-2
-    error-fits-requires
-    value-fits-requires-2
-    either-requires
-    empty-fits-requires
-    either-requires-2
-    returns-3
-    returns-4)
+    returns-2)
