@@ -1,27 +1,39 @@
 -- The plain page and the codes: the same values are valid, and the same bytes are written.
-use mathlib.Core.Path.{_≡_, refl, sym, ap}
-use mathlib.Core.List.{List, [], _∷_, append-nil}
+use mathlib.Core.Path.{_≡_, refl, sym, _∙_, ap}
+use mathlib.Core.List.{List, [], _∷_, _++_, append-nil}
 use mathlib.Core.Bool.{Bool, true, false, true≢false}
 use mathlib.Core.Logic.{_↔_}
-use Prim.Native.Nat.{ℕ, _≤_, _<_}
+use Prim.Native.Nat.{ℕ, zero, suc, _/_, _%_, _≤_, _<_}
 use native.Mathlib.Omega.{arith}
 use native.Mathlib.Decide.{decLt}
 use lib.ListN.{length}
 use lib.Dec.{leb, eqb}
 use borrow.Author.Tests.{ltb-true, lt-ltb, leb-true, le-leb, ne-eqb}
-use Rattle.codes.specs.Code.{AllOf, writeAll, byte, within}
+use Rattle.codes.specs.Code.{AllOf, writeAll, byte, within, word}
 use Rattle.codes.proofs.Sound.{word-valid, valid-word}
+use Rattle.codes.proofs.Put.{word-length}
 use Rattle.codes.proofs.Demand.{both}
 use Rattle.blocks.specs.declared.reader.Address.{Address}
 use Rattle.blocks.specs.Block.{Block, block, changeBlockFits, responseBlockFits, valuesOf, valueSize}
 use Rattle.blocks.specs.Request.{Request, address, request}
 use Rattle.blocks.specs.Response.{Response, response, isAnswer}
-use Rattle.blocks.specs.Page.{From, AddressFits, BlockFits, RequestFits, ResponseFits, addressBytes, blockBytes, requestBytes, responseBytes}
+use Rattle.blocks.specs.Page.{From, AddressFits, BlockFits, RequestFits, ResponseFits, numberBytes, addressBytes, blockBytes, requestBytes, responseBytes}
 
 -- the bytes
 same-all : {A : Type 0} (f g : A → List ℕ) → ((a : A) → f a ≡ g a) → (xs : List A) → writeAll f xs ≡ writeAll g xs
 same-all f g h [] = refl
 same-all f g h (x ∷ xs) = rw (h x, same-all f g h xs)
+
+-- a number of n bytes, and numbers one after the other
+number-bytes : (n x : ℕ) → word n .write x ≡ numberBytes n x
+number-bytes zero x = refl
+number-bytes (suc n) x = ap (λ (l : List ℕ). l ++ (x % 256 ∷ [])) (number-bytes n (x / 256))
+
+pub number-length : (n x : ℕ) → length (numberBytes n x) ≡ n
+number-length n x = ap length (sym (number-bytes n x)) ∙ word-length n x
+
+pub numbers-bytes : (n : ℕ) (xs : List ℕ) → writeAll (word n .write) xs ≡ writeAll (numberBytes n) xs
+numbers-bytes n = same-all (word n .write) (numberBytes n) (number-bytes n)
 
 address-bytes : (a : Address) → address .write a ≡ addressBytes a
 unfolding address
@@ -29,7 +41,7 @@ address-bytes a = refl
 
 pub block-bytes : (fits : ℕ → ℕ → Bool) (b : Block) → block fits .write b ≡ blockBytes b
 unfolding block valuesOf
-block-bytes fits b = ap (λ (l : List ℕ). b .format ∷ length (b .values) ∷ l) (append-nil _)
+block-bytes fits b = ap (λ (l : List ℕ). b .format ∷ length (b .values) ∷ l) (append-nil _ ∙ numbers-bytes (valueSize (b .format)) (b .values))
 
 pub request-bytes : (r : Request) → request .write r ≡ requestBytes r
 unfolding request

@@ -7,20 +7,21 @@ use native.Mathlib.Numerals.{add-one}
 use native.Mathlib.Decide.{decLe}
 use lib.ListN.{length, set, length-append}
 use borrow.Author.Tests.{le-leb, lt-leb}
-use Rattle.codes.specs.Code.{word, writeAll}
+use Rattle.codes.specs.Code.{writeAll}
 use Rattle.codes.specs.Number.{put}
-use Rattle.codes.proofs.Put.{word-length, put-too-long, put-append, sets-put}
+use Rattle.codes.proofs.Put.{put-too-long, put-append, sets-put}
 use Rattle.codes.proofs.Items.{all-length, write-last}
+use Rattle.blocks.proofs.Page.{number-length}
 use Rattle.blocks.proofs.Blocks.{values-size}
 use Rattle.blocks.specs.declared.Header.{Header}
 use Rattle.blocks.specs.Block.{Block, valueSize, valuesSize}
 use Rattle.blocks.specs.Response.{Response}
-use Rattle.blocks.specs.Page.{blockBytes, responseBytes}
+use Rattle.blocks.specs.Page.{numberBytes, blockBytes, responseBytes}
 use Rattle.blocks.specs.Place.{headerBytes, putBlock}
 
 -- the bytes of a block: two and those of its values
 pub block-written : (f n : ℕ) (vs : List ℕ) → n ≡ length vs → 2 + valuesSize f n ≡ length (blockBytes (record { format = f; values = vs }))
-block-written f n vs e = rw e (omega (arith, values-size f (length vs), all-length (word (valueSize f) .write) (valueSize f) (word-length (valueSize f)) vs))
+block-written f n vs e = rw e (omega (arith, values-size f (length vs), all-length (numberBytes (valueSize f)) (valueSize f) (number-length (valueSize f)) vs))
 
 -- a block of as many values as a byte counts
 pub block-counted : (l : List ℕ) (at : ℕ) (b : Block) → length (b .values) ≤ 255 → putBlock l at b ≡ put l at (blockBytes b)
@@ -41,24 +42,24 @@ block-too-long l at f vs h = go (decLe (length vs) 255)
     go (no n) = block-uncounted l at b (omega arith)
 
 -- a format and a count stored, then the values put after them
-pub block-stored : (l : List ℕ) (at f w : ℕ) (vs : List ℕ) → w ≡ valueSize f → length vs ≤ 255 → at + (2 + valuesSize f (length vs)) ≤ length l → put (set (set l at f) (at + 1) (length vs)) (at + 2) (writeAll (word w .write) vs) ≡ putBlock l at (record { format = f; values = vs })
+pub block-stored : (l : List ℕ) (at f w : ℕ) (vs : List ℕ) → w ≡ valueSize f → length vs ≤ 255 → at + (2 + valuesSize f (length vs)) ≤ length l → put (set (set l at f) (at + 1) (length vs)) (at + 2) (writeAll (numberBytes w) vs) ≡ putBlock l at (record { format = f; values = vs })
 block-stored l at f w vs e s h =
     let n : 2 + valuesSize f (length vs) ≡ length (blockBytes (record { format = f; values = vs })) = block-written f (length vs) vs refl in
-    rw (e, add-one, sets-put l at (f ∷ length vs ∷ []) (omega arith)) (put-append l at (f ∷ length vs ∷ []) (writeAll (word (valueSize f) .write) vs) (omega arith))
+    rw (e, add-one, sets-put l at (f ∷ length vs ∷ []) (omega arith)) (put-append l at (f ∷ length vs ∷ []) (writeAll (numberBytes (valueSize f)) vs) (omega arith))
     ∙ sym (block-counted l at (record { format = f; values = vs }) s)
 
 -- `40 00`, and `44 01` with its error word, are blocks
 pub empty-bytes : blockBytes (record { format = 0x40; values = [] }) ≡ 0x40 ∷ 0 ∷ []
 empty-bytes = refl
 
-pub error-bytes : (e : ℕ) → blockBytes (record { format = 0x44; values = e ∷ [] }) ≡ 0x44 ∷ 1 ∷ word 2 .write e
+pub error-bytes : (e : ℕ) → blockBytes (record { format = 0x44; values = e ∷ [] }) ≡ 0x44 ∷ 1 ∷ numberBytes 2 e
 unfolding valueSize
 error-bytes e = refl
 
 pub empty-put : (l : List ℕ) (at : ℕ) → put l at (0x40 ∷ 0 ∷ []) ≡ putBlock l at (record { format = 0x40; values = [] })
 empty-put l at = refl
 
-pub error-put : (l : List ℕ) (at e : ℕ) → put l at (0x44 ∷ 1 ∷ word 2 .write e) ≡ putBlock l at (record { format = 0x44; values = e ∷ [] })
+pub error-put : (l : List ℕ) (at e : ℕ) → put l at (0x44 ∷ 1 ∷ numberBytes 2 e) ≡ putBlock l at (record { format = 0x44; values = e ∷ [] })
 unfolding valueSize
 error-put l at e = refl
 

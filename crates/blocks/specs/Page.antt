@@ -3,9 +3,9 @@
 use mathlib.Core.Path.{_≡_}
 use mathlib.Core.List.{List, [], _∷_, _++_}
 use mathlib.Core.Bool.{Bool, true}
-use Prim.Native.Nat.{ℕ, _≤_, _<_, _/_, _%_, _^_}
+use Prim.Native.Nat.{ℕ, zero, suc, _≤_, _<_, _/_, _%_, _^_}
 use lib.ListN.{length}
-use Rattle.codes.specs.Code.{AllOf, writeAll, word}
+use Rattle.codes.specs.Code.{AllOf, writeAll}
 use Rattle.blocks.specs.declared.reader.Address.{Address}
 use Rattle.blocks.specs.Block.{Block, valueSize, changeBlockFits, responseBlockFits}
 use Rattle.blocks.specs.Request.{Request, requestBlocks}
@@ -15,7 +15,7 @@ use Rattle.blocks.specs.Response.{Response, isAnswer, responseBlocks, er
 abbrev pub From : ℕ → ℕ → ℕ → Type 0
 From low high x = (low ≤ x) × (x ≤ high)
 
--- which values are valid
+-- Which values are valid.
 pub record AddressFits (a : Address) : Type 0 where
   pub attribute : a .attribute < 256
   pub elements : a .elements < 256
@@ -46,13 +46,16 @@ pub record ResponseFits (r : Response) : Type 0 where
   pub blocks : AllOf (BlockFits (responseBlockFits (r .identifier))) (r .blocks)
   pub errors : errorsFit (r .identifier) (r .blocks) ≡ true
 
--- which bytes are written
+-- Which bytes are written. A number of n bytes stands high byte first.
+abbrev pub numberBytes : ℕ → ℕ → List ℕ
+numberBytes zero x = []
+numberBytes (suc n) x = numberBytes n (x / 256) ++ (x % 256 ∷ [])
+
 abbrev pub addressBytes : Address → List ℕ
-addressBytes a =
-    a .attribute ∷ a .elements ∷ a .pnu / 256 % 256 ∷ a .pnu % 256 ∷ a .subindex / 256 % 256 ∷ a .subindex % 256 ∷ []
+addressBytes a = a .attribute ∷ a .elements ∷ numberBytes 2 (a .pnu) ++ numberBytes 2 (a .subindex)
 
 abbrev pub blockBytes : Block → List ℕ
-blockBytes b = b .format ∷ length (b .values) ∷ writeAll (word (valueSize (b .format)) .write) (b .values)
+blockBytes b = b .format ∷ length (b .values) ∷ writeAll (numberBytes (valueSize (b .format))) (b .values)
 
 abbrev pub requestBytes : Request → List ℕ
 requestBytes r =

@@ -3,9 +3,10 @@ ghost use mathlib.Core.Path.{_≡_};
 ghost use mathlib.Core.List.{[], _∷_};
 ghost use Prim.Native.Nat.{_+_, _*_, _≤_};
 ghost use lib.ListN.{length};
-ghost use Rattle.codes.specs.Code.{word, writeAll};
+ghost use Rattle.codes.specs.Code.{writeAll};
 ghost use Rattle.codes.specs.Number.{put};
 ghost use Rattle.blocks.specs.Block.{valuesSize};
+ghost use Rattle.blocks.specs.Page.{numberBytes};
 ghost use Rattle.blocks.specs.Place.{headerBytes, putBlock};
 use super::Header;
 
@@ -31,7 +32,7 @@ pub fn block_size(f: u8, n: u8) -> usize
 // Writes each value in `size` bytes from `at` on, where they all fit.
 fn put_values(out: &mut [u8], at: usize, size: usize, values: &[u32])
     requires { ⌜ at + length (now values) * size ≤ length (now out) ⌝ }
-    ensures { λ r. ⌜ now (out .exit) ≡ put (now (out .entry)) at (writeAll (word size .write) (now (values .entry))) ⌝ }
+    ensures { λ r. ⌜ now (out .exit) ≡ put (now (out .entry)) at (writeAll (numberBytes size) (now (values .entry))) ⌝ }
 {
     let mut j: usize = 0;
     while j < values.len() {
@@ -69,7 +70,7 @@ pub fn put_empty(out: &mut [u8], at: usize)
 
 // `44 01` and the error word.
 pub fn put_error(out: &mut [u8], at: usize, error: u16)
-    ensures { λ r. ⌜ now (out .exit) ≡ put (now (out .entry)) at (0x44 ∷ 1 ∷ word 2 .write error) ⌝ }
+    ensures { λ r. ⌜ now (out .exit) ≡ put (now (out .entry)) at (0x44 ∷ 1 ∷ numberBytes 2 error) ⌝ }
 {
     let values = [error as u32];
     put_block(out, at, 0x44, &values);

@@ -3,6 +3,7 @@ use Rattle.codes.specs.Code.{word, writeAll}
 use Rattle.codes.specs.Number.{put}
 use Rattle.codes.proofs.Put.{put-none, put-length}
 use Rattle.codes.proofs.Items.{value-inside, value-next}
+use Rattle.blocks.proofs.Page.{numbers-bytes}
 use denote.Ref.{now}
 use lib.ListN.{length, getD, take}
 use lib.Seq.{take-length}
@@ -66,7 +67,7 @@ same-length c =
 returns : tie.Need-returns Inv-loop μ-loop
 returns c =
     let e : c .before .loop .j ≡ length (now (c .before .before .before .before .args .values)) = omega arith in
-    c .before .loop .inv .1 ∙ rw (e, take-length)
+    c .before .loop .inv .1 ∙ rw (e, take-length, numbers-bytes)
 
 pub put-values-spec : {M : Type 1} → statement M
 put-values-spec =
