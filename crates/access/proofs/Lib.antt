@@ -14,3 +14,4 @@ pub mod Lengths
 pub mod Answers
 pub mod Keeps
 pub mod There
+pub mod Instances

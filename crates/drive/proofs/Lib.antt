@@ -3,3 +3,4 @@ pub mod Find
 pub mod Proper
 pub mod Laws
 pub mod Worked
+pub mod Instances
