@@ -1,14 +1,13 @@
 -- What a change stored is there when it is over, where no later address names it; and an address without an error stored all.
 use mathlib.Core.Path.{_≡_, refl, sym, ap, subst, _∙_}
-use mathlib.Core.Bool.{Bool, true, false, true≢false}
+use mathlib.Core.Bool.{true, false, true≢false}
 use mathlib.Core.List.{List, [], _∷_, _++_, List·Memᴰ}
-use mathlib.Core.Logic.{_⊎_, inl, inr}
+use mathlib.Core.Logic.{inl, inr}
 use Prim.Native.Nat.{ℕ, zero, suc, _+_, _-_, _^_, _≤_, _<_}
 use native.Mathlib.Omega.{arith}
 use lib.ListN.{length, getD}
 use Rattle.codes.specs.Code.{AllOf}
 use Rattle.blocks.specs.Block.{Block, changeBlockFits}
-use Rattle.blocks.specs.Request.{Request}
 use Rattle.blocks.specs.Response.{isError}
 use Rattle.blocks.specs.Page.{BlockFits}
 use Rattle.blocks.specs.declared.reader.Address.{Address}
@@ -18,10 +17,9 @@ use Rattle.catalogue.specs.Table.{rows, parameterBytes, findOf, elementSize}
 use Rattle.catalogue.specs.Element.{inside, elementOf, putElement}
 use Rattle.catalogue.proofs.Elements.{element-length, element-stored}
 use Rattle.catalogue.proofs.Rows.{found-row, element-inside}
-use Rattle.part.specs.Layout.{partSize}
 use Rattle.access.specs.Change.{Changed, storeFrom, changeOne, changeAll}
 use Rattle.access.specs.Work.{worked}
-use Rattle.access.specs.Laws.{Asked, Allowed, Turn, StoredIsThere, AnsweredIsStored}
+use Rattle.access.specs.Laws.{Asked, Allowed, StoredIsThere, AnsweredIsStored}
 use Rattle.access.proofs.Checks.{pick}
 use Rattle.access.proofs.Lengths.{change-length}
 use Rattle.access.proofs.Answers.{Stores, change-cases}
@@ -110,7 +108,7 @@ stored-is-there r p fits two size t q j s none =
     let bs : AllOf (BlockFits changeBlockFits) (t .block ∷ t .laterBlocks) = all-after (BlockFits changeBlockFits) (t .earlierBlocks) _ (subst (AllOf (BlockFits changeBlockFits)) (t .blocks) (fits .blocks)) in
     let here = change-there (t .address) (t .block) (bs .0) mid (omega (arith, size, change-length (t .earlier) (t .earlierBlocks) p)) q (s .found) j (s .low) (s .high) in
     let whole : worked r p .part ≡ changeAll (t .later) (t .laterBlocks) next .part =
-        rw (two, t .addresses, t .blocks) (change-then (t .earlier) (t .address ∷ t .later) (t .earlierBlocks) (t .block ∷ t .laterBlocks) p (t .level)) in
+    rw (two, t .addresses, t .blocks) (change-then (t .earlier) (t .address ∷ t .later) (t .earlierBlocks) (t .block ∷ t .laterBlocks) p (t .level)) in
     ap (elementOf q j) whole ∙ go next _ (here .1) (all-kept (t .later) (t .laterBlocks) next (bs .1) .elements q (found-row _ q (s .found)) j (here .0))
   where
     go : (mid end : List ℕ) {x : ℕ} → elementOf q j mid ≡ x → Allowed (Asked (t .later)) mid end q j → elementOf q j end ≡ x

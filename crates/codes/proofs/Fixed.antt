@@ -1,7 +1,6 @@
 -- Codes that read a fixed number of bytes, whatever these are: reading is then a matter of the length.
 use mathlib.Core.Path.{_≡_, subst}
 use mathlib.Core.List.{List, [], _∷_}
-use mathlib.Core.Bool.{Bool, cond}
 use Prim.Native.Nat.{ℕ, zero, suc, _+_, _*_, _%_, _≤_, _<_}
 use native.Mathlib.Omega.{arith}
 use native.Mathlib.Numerals.{add-one}
@@ -11,7 +10,7 @@ use lib.ListN.{length, getD, drop, drop-of-length-le}
 use lib.Seq.{drop-cons}
 use lib.Dec.{lit≤, lit<}
 use borrow.Author.Tests.{lt-ltb}
-use Rattle.codes.specs.Code.{got, bad, Code, check, give, field, readTimes, times, byte, word}
+use Rattle.codes.specs.Code.{got, bad, Code, give, field, readTimes, times, byte, word}
 use Rattle.codes.proofs.Sound.{word-sound, word-valid}
 
 abbrev pub Bytes : List ℕ → Type 0
@@ -19,9 +18,6 @@ Bytes s = (i : ℕ) → getD s i 0 < 256
 
 pub byte-at : (s : List ℕ) → Bytes s → (at : ℕ) → at < length s → byte .read (drop at s) ≡ got (getD s at 0) (drop (at + 1) s)
 byte-at s b at h = rw (drop-cons s at 0 h, lt-ltb _ _ (b at), add-one)
-
-pub checked-at : (p : ℕ → Bool) (s : List ℕ) → Bytes s → (at : ℕ) → at < length s → check p byte .read (drop at s) ≡ cond (p (getD s at 0)) (got (getD s at 0) (drop (at + 1) s)) bad
-checked-at p s b at h = rw (byte-at s b at h)
 
 pub byte-end : (s : List ℕ) (at : ℕ) → length s ≤ at → byte .read (drop at s) ≡ bad
 byte-end s at h = rw (drop-of-length-le s h)

@@ -1,11 +1,11 @@
 // The worked cycles of document 01, and both sides of each limit of its control cycle: a line for each.
 ghost use Prim.Native.Nat.{_<_};
 ghost use Rattle.drive.specs.Faults.{situations};
-use drive::Output;
 use drive::Drive;
 use drive::Faults;
 use drive::Input;
 use drive::N2;
+use drive::Output;
 use drive::State;
 use drive::faults::BUFFER;
 use drive::faults::CODES;

@@ -14,8 +14,8 @@ use Rattle.station.specs.declared.Framed.{Framed}
 use Rattle.station.specs.Calls.{cycle, frame, Answer, toCycle, toFrame, kinds}
 use Rattle.station.specs.Isolation.{answer, answerBy}
 use Rattle.part.specs.Layout.{waitingLength, responseAt, responseRoom, waiting}
-use Rattle.station.specs.Parts.{refusal, partOf}
-use Rattle.station.specs.Frame.{isWrite, refusalOf, refusedReply, workedReply, replyOf, frameAnswer}
+use Rattle.station.specs.Parts.{stationRefusal, partOf}
+use Rattle.station.specs.Frame.{isWrite, frameRefusal, refusedReply, workedReply, replyOf, frameAnswer}
 use Rattle.journal.specs.Text.{decimal, signed, hexWord, hexBytes}
 use Rattle.journal.specs.Line.{frameLength, replyRoom, space, stateName, cycleLine, replyText, frameLine, cycleCall, frameCall, lineOf, written}
 
@@ -71,11 +71,11 @@ lengthOf (toFrame f reply) = f .length
 
 pub reply-short : (k : ℕ) (f m s : List ℕ) (r : Framed) (reply : List ℕ) → toFrame r reply ≡ answer kinds (frame k f m) s → r .length ≤ 244
 unfolding answer frameAnswer
-reply-short k f m s r reply e = go (refusal k (length s)) e
+reply-short k f m s r reply e = go (stationRefusal k (length s)) e
   where
     go : (n : ℕ) → toFrame r reply ≡ answerBy kinds n (frame k f m) s → r .length ≤ 244
     go zero h =
         let p = partOf k s in
-        let same : r .length ≡ length (replyOf f p (refusalOf k f (length m) p)) = ap lengthOf h in
-        omega (arith, short f p (refusalOf k f (length m) p))
+        let same : r .length ≡ length (replyOf f p (frameRefusal k f (length m) p)) = ap lengthOf h in
+        omega (arith, short f p (frameRefusal k f (length m) p))
     go (suc n) h = let same : r .length ≡ length (refusedReply f (suc n)) = ap lengthOf h in omega (arith, refused-short f (suc n))

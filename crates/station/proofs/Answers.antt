@@ -11,7 +11,7 @@ use borrow.Rule.Slice.PartMut.{putMid}
 use Rattle.codes.proofs.Demand.{both}
 use Rattle.codes.proofs.Put.{put-none}
 use Rattle.part.specs.Layout.{partSize}
-use Rattle.station.specs.Parts.{farms, stationSize, window, withWindow, partOf, withPart, refusal}
+use Rattle.station.specs.Parts.{farms, stationSize, window, withWindow, partOf, withPart, stationRefusal}
 use Rattle.station.specs.Frame.{refusedReply}
 use Rattle.station.specs.Isolation.{Kinds, answer, after}
 use Rattle.station.specs.Calls.{frame, toFrame, refused}
@@ -27,8 +27,8 @@ untouched true b e = absurd (omega arith)
 untouched false true e = absurd (omega arith)
 untouched false false e = (refl, refl)
 
-pub takes : (k size : ℕ) → 0 ≡ refusal k size → Taken k size
-unfolding refusal
+pub takes : (k size : ℕ) → 0 ≡ stationRefusal k size → Taken k size
+unfolding stationRefusal
 takes k size e =
     let t = untouched (not (leb 1 k && leb k farms)) (not (eqb size stationSize)) e in
     let b = both (leb 1 k) (leb k farms) (not-false (leb 1 k && leb k farms) (t .0)) in
@@ -43,13 +43,13 @@ part-size k = omega arith
 
 -- a call on the station, refused or done: what its function has to show at each return
 module _ (K : Kinds) (c : K .Call) (s : List ℕ) where
-  pub refuses : (n : ℕ) → n ≡ refusal (K .owner c) (length s) → (n ≡ 0 → ⊥) → (K .refused c n ≡ answer K c s) × (s ≡ after K c s)
+  pub refuses : (n : ℕ) → n ≡ stationRefusal (K .owner c) (length s) → (n ≡ 0 → ⊥) → (K .refused c n ≡ answer K c s) × (s ≡ after K c s)
   unfolding answer after
   refuses zero e z = absurd (z refl)
   refuses (suc n) e z = rw (← e) (refl, refl)
 
   pub does :
-      (r : K .Answer) (ys : List ℕ) → 0 ≡ refusal (K .owner c) (length s)
+      (r : K .Answer) (ys : List ℕ) → 0 ≡ stationRefusal (K .owner c) (length s)
       → r ≡ K .answers c (partOf (K .owner c) s) → ys ≡ K .leaves c (partOf (K .owner c) s)
       → (r ≡ answer K c s) × (putMid ((K .owner c - 1) * partSize) ((K .owner c - 1) * partSize + partSize - (K .owner c - 1) * partSize) s ys ≡ after K c s)
   unfolding answer after withWindow
@@ -68,8 +68,8 @@ pub empty-refused : (k : ℕ) (f m : List ℕ) (n : ℕ) → n < 5 → toFrame (
 empty-refused k f m n h = rw (quiet f n h, put-none m 0)
 
 -- farm and size are refused by 1 and 2
-pub refusal-small : (k size : ℕ) → refusal k size < 5
-unfolding refusal
+pub refusal-small : (k size : ℕ) → stationRefusal k size < 5
+unfolding stationRefusal
 refusal-small k size = go (not (leb 1 k && leb k farms)) (not (eqb size stationSize))
   where
     go : (a b : Bool) → cond a 1 (cond b 2 0) < 5

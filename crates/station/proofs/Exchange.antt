@@ -1,15 +1,14 @@
 -- A request that is written by its own farm is answered, when it is fetched, by the response that the rules give, whatever came between.
 use mathlib.Core.Path.{_≡_, refl, sym, ap, subst, _∙_}
-use mathlib.Core.Bool.{Bool, true, false, not, _&&_, _||_}
-use mathlib.Core.List.{List, [], _∷_, _++_, append-nil}
-use Prim.Native.Nat.{ℕ, _+_, _≤_}
+use mathlib.Core.Bool.{Bool, true, false}
+use mathlib.Core.List.{List, [], _∷_, append-nil}
+use Prim.Native.Nat.{ℕ, _≤_}
 use native.Mathlib.Omega.{arith}
-use lib.Dec.{eqb, leb, ltb}
+use lib.Dec.{eqb}
 use lib.ListN.{length, drop, length-drop}
 use lib.Seq.{length-take-le}
 use borrow.Author.Tests.{eq-eqb, eqb-true, eqb-false, ne-eqb, le-leb, le-ltb}
 use Rattle.codes.specs.Code.{got, AllOf, readable}
-use Rattle.codes.proofs.Put.{put-fits}
 use Rattle.blocks.specs.Block.{blockLimit}
 use Rattle.blocks.specs.Request.{Request, request}
 use Rattle.blocks.specs.Place.{headerOf}
@@ -19,18 +18,17 @@ use Rattle.blocks.proofs.Sound.{request-sound}
 use Rattle.blocks.proofs.Request.{request-header}
 use Rattle.blocks.proofs.Page.{request-valid, request-bytes, response-bytes}
 use Rattle.blocks.proofs.Demand.{requests}
-use Rattle.part.specs.Layout.{responseAt, partSize, responseRoom, waitingLength, waiting, withResponse}
+use Rattle.part.specs.Layout.{responseAt, responseRoom, waitingLength, waiting, withResponse}
 use Rattle.part.specs.WellFormed.{wellFormed}
 use Rattle.part.proofs.Laws.{waiting-length-is}
 use Rattle.access.specs.Work.{worked, Outcome, outcomeOf}
 use Rattle.access.proofs.Answers.{answer-fits, answer-short}
 use Rattle.station.specs.Parts.{farms, stationSize, partOf}
-use Rattle.station.specs.Frame.{lengthByte, blockOf, isWrite, refusalOf, frameAnswer, frameReply, framePart}
-use Rattle.station.specs.Cycle.{Sent, cyclePart}
+use Rattle.station.specs.Frame.{lengthByte, blockOf, isWrite, frameRefusal, frameAnswer, frameReply, framePart}
 use Rattle.station.specs.Runs.{runEnd}
-use Rattle.station.specs.Isolation.{answer, after, machine}
+use Rattle.station.specs.Isolation.{after, machine}
 use Rattle.station.specs.Calls.{Call, cycle, frame, toFrame, kinds, owner}
-use Rattle.station.specs.Laws.{AtRest, writeOf, fetchOf, Between, replied, Exchanged, RespondsAsRuled}
+use Rattle.station.specs.Laws.{writeOf, fetchOf, Between, replied, RespondsAsRuled}
 use Rattle.station.proofs.Isolation.{Right, took-answer, fine, length-after, own, other}
 use Rattle.station.proofs.Sizes.{sized}
 use Rattle.station.proofs.Frames.{formed}
@@ -49,13 +47,13 @@ waits-all k p w =
 module _ (k : ℕ) (m p : List ℕ) (w : wellFormed k p ≡ true) (room : 244 ≤ length m) where
   write-passes :
       (b : List ℕ) → waitingLength p ≡ 0 → length b ≤ blockLimit → readable blockLimit request b ≡ true → headerOf b .axis ≡ k
-      → refusalOf k (0x5F ∷ 0 ∷ 0x2F ∷ length b ∷ b) (length m) p ≡ 0
-  unfolding refusalOf
+      → frameRefusal k (0x5F ∷ 0 ∷ 0x2F ∷ length b ∷ b) (length m) p ≡ 0
+  unfolding frameRefusal
   write-passes b idle short reads mine =
       rw (w, le-ltb (length m) 244 room, le-ltb (length (0x5F ∷ 0 ∷ 0x2F ∷ length b ∷ b)) 4 (omega arith), le-leb (length b) blockLimit short, eq-eqb (length b) (length b) refl, idle, reads, eq-eqb (headerOf b .axis) k mine)
 
-  fetch-passes : (n : ℕ) → (waitingLength p ≡ 0 → ⊥) → waitingLength p ≤ n → n ≤ blockLimit → refusalOf k (fetchOf n) (length m) p ≡ 0
-  unfolding refusalOf
+  fetch-passes : (n : ℕ) → (waitingLength p ≡ 0 → ⊥) → waitingLength p ≤ n → n ≤ blockLimit → frameRefusal k (fetchOf n) (length m) p ≡ 0
+  unfolding frameRefusal
   fetch-passes n some enough short = rw (w, le-ltb (length m) 244 room, le-leb n blockLimit short, ne-eqb (waitingLength p) 0 some, le-ltb n (waitingLength p) enough)
 
 -- a request of the page, as its block
@@ -71,7 +69,7 @@ module _ (r : Request) (fits : RequestFits r) (short : length (requestBytes r) �
   axis-is = ap (λ (h : Header). h .axis) (request-header (requestBytes r) r [] reads-back)
 
 -- what a write and a fetch that pass answer and leave
-module _ (k : ℕ) (f m p : List ℕ) (e : refusalOf k f (length m) p ≡ 0) where
+module _ (k : ℕ) (f m p : List ℕ) (e : frameRefusal k f (length m) p ≡ 0) where
   written :
       isWrite f ≡ true
       → (toFrame (frameAnswer k f m p) (frameReply k f m p) ≡ replied (0x5F ∷ 0 ∷ 0x2F ∷ lengthByte f ∷ []) (outcomeOf k (blockOf f) p .stored) m)
@@ -86,7 +84,7 @@ module _ (k : ℕ) (f m p : List ℕ) (e : refusalOf k f (length m) p ≡ 0) whe
   unfolding frameAnswer framePart
   fetched isnt bs long same =
       let reply : 0x5E ∷ 0 ∷ 0x2F ∷ waitingLength p ∷ waiting p ≡ 0x5E ∷ 0 ∷ 0x2F ∷ length bs ∷ bs =
-          ap (λ (x : ℕ). 0x5E ∷ 0 ∷ 0x2F ∷ x ∷ waiting p) long ∙ ap (λ (l : List ℕ). 0x5E ∷ 0 ∷ 0x2F ∷ length bs ∷ l) same in
+      ap (λ (x : ℕ). 0x5E ∷ 0 ∷ 0x2F ∷ x ∷ waiting p) long ∙ ap (λ (l : List ℕ). 0x5E ∷ 0 ∷ 0x2F ∷ length bs ∷ l) same in
       (rw (reply-stands k f m p, e, isnt) (ap (λ (l : List ℕ). replied l 0 m) reply), rw (e, isnt) refl)
 
 -- the response waits, whatever comes between
@@ -140,12 +138,12 @@ responds-as-ruled k r s m between n w rest fits short mine room calls enough mos
     let left = own kinds sized write s home in
     let bs : List ℕ = responseBytes (worked r p .response) in
     let waits : Waits k bs (after kinds write s) =
-        record {
-          size = length-after kinds sized write s ∙ rest .size;
-          formed = ap (wellFormed k) left ∙ part-stays write p tt (rest .formed);
-          waits = ap waiting (left ∙ first .1)
-              ∙ (waits-as-ruled k (requestBytes r) p r (formed k p (rest .formed) .0) bytes back mine .0 ∙ response-bytes (worked r p .response));
-        } in
+    record {
+      size = length-after kinds sized write s ∙ rest .size;
+      formed = ap (wellFormed k) left ∙ part-stays write p tt (rest .formed);
+      waits = ap waiting (left ∙ first .1)
+          ∙ (waits-as-ruled k (requestBytes r) p r (formed k p (rest .formed) .0) bytes back mine .0 ∙ response-bytes (worked r p .response));
+    } in
     let then = runEnd (machine kinds) between (after kinds write s) in
     let still = many-calls k (rest .low) (rest .high) bs between (after kinds write s) calls waits in
     let q : List ℕ = partOf k then in

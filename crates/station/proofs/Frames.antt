@@ -21,7 +21,7 @@ use Rattle.part.specs.Layout.{stateAt, responseAt, responseRoom, partSize, wait
 use Rattle.part.specs.Record.{faultsOf}
 use Rattle.part.specs.WellFormed.{wellFormed, isState, everyRow, limitsFit, fixedFit, waitingFits, unusedFit}
 use Rattle.station.specs.Inner.{outcome, fetched, framed}
-use Rattle.station.specs.Frame.{lengthByte, blockOf, isWrite, refusedReply, replyOf, refusalOf, frameAnswer, frameReply, framePart}
+use Rattle.station.specs.Frame.{lengthByte, blockOf, isWrite, refusedReply, replyOf, frameRefusal, frameAnswer, frameReply, framePart}
 use Rattle.station.proofs.Outcome.{outcome-number, outcome-refused}
 use Rattle.station.proofs.Judged.{Passed}
 
@@ -68,7 +68,7 @@ rest-of f = take-all (length f - 4) (drop 4 f) (rw length-drop (omega arith))
 
 module _ (k : ℕ) (f m p : List ℕ) where
   pub refused-frame :
-      (n : ℕ) → refusalOf k f (length m) p ≡ n → (n ≡ 0 → ⊥)
+      (n : ℕ) → frameRefusal k f (length m) p ≡ n → (n ≡ 0 → ⊥)
       → (framed (refusedReply f n) 0 n ≡ frameAnswer k f m p)
       × ((put m 0 (refusedReply f n) ≡ frameReply k f m p) × (p ≡ framePart k f m p))
   unfolding frameAnswer frameReply framePart
@@ -89,7 +89,7 @@ module _ (k : ℕ) (f m p : List ℕ) where
       × (put m 0 (0x5F ∷ 0 ∷ 0x2F ∷ lengthByte f ∷ []) ≡ put m 0 (replyOf f p (outcome k f p .number)))
   block-worked s w e h = rw (← e, ← h, w) (refl, refl)
 
-  pub write-number : Passed k f (length m) p → isWrite f ≡ true → refusalOf k f (length m) p ≡ outcome k f p .number
+  pub write-number : Passed k f (length m) p → isWrite f ≡ true → frameRefusal k f (length m) p ≡ outcome k f p .number
   write-number h w = h .number ∙ rw w (sym (outcome-number k (blockOf f) p))
 
   -- a refused block stores nothing
@@ -114,4 +114,4 @@ module _ (k : ℕ) (f m p : List ℕ) where
       → (framed (fetched p) 0 0 ≡ frameAnswer k f m p)
       × ((put m 0 (fetched p) ≡ frameReply k f m p) × (withResponse [] p ≡ framePart k f m p))
   unfolding frameAnswer frameReply framePart
-  fetched-frame h w = let e : refusalOf k f (length m) p ≡ 0 = h .number ∙ rw w in rw (e, w) (refl, (refl, refl))
+  fetched-frame h w = let e : frameRefusal k f (length m) p ≡ 0 = h .number ∙ rw w in rw (e, w) (refl, (refl, refl))

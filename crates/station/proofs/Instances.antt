@@ -1,6 +1,6 @@
 -- Each law of specs/Laws.antt at work on calls that are written out, at both ends of its bounds: a law that is made weaker fails here.
-use mathlib.Core.Path.{_≡_, refl, sym, _∙_}
-use mathlib.Core.Bool.{true, false}
+use mathlib.Core.Path.{_≡_, refl, _∙_}
+use mathlib.Core.Bool.{true}
 use mathlib.Core.List.{List, [], _∷_, _++_}
 use Prim.Native.Nat.{ℕ, _≤_}
 use native.Mathlib.Omega.{arith}
@@ -9,28 +9,27 @@ use lib.IntN.{pos, negsuc}
 use lib.ListN.{length, drop}
 use borrow.Author.Tests.{eq-eqb, le-ltb}
 use Rattle.codes.specs.Code.{AllOf, readable}
-use Rattle.codes.specs.Number.{numberAt, put}
+use Rattle.codes.specs.Number.{numberAt}
 use Rattle.blocks.specs.Block.{blockLimit}
 use Rattle.blocks.specs.Request.{Request, request}
 use Rattle.blocks.specs.Response.{response}
 use Rattle.blocks.specs.Page.{RequestFits, requestBytes, responseBytes}
-use Rattle.part.specs.Layout.{waitingLength, waiting}
+use Rattle.part.specs.Layout.{waiting}
 use Rattle.part.specs.Fresh.{freshPart}
-use Rattle.part.specs.WellFormed.{wellFormed}
 use Rattle.access.specs.Work.{worked, outcomeOf}
 use Rattle.access.proofs.Answers.{answer-short}
 use Rattle.station.specs.Parts.{stationSize, partOf, freshStation}
-use Rattle.station.specs.Frame.{refusalOf, frameReply}
+use Rattle.station.specs.Frame.{frameRefusal, frameReply}
 use Rattle.station.specs.Cycle.{Sent}
-use Rattle.station.specs.Runs.{SameSeen, runAnswers, runEnd}
+use Rattle.station.specs.Runs.{SameSeen, runAnswers}
 use Rattle.station.specs.Isolation.{Isolated, answer, after, machine}
-use Rattle.station.specs.Calls.{Call, cycle, frame, Answer, toFrame, owner, kinds}
+use Rattle.station.specs.Calls.{Call, cycle, frame, toFrame, owner, kinds}
 use Rattle.station.specs.Worked.{marks, fetch}
 use Rattle.station.specs.Laws.{numberIn, Refuses, WellFormedStation, SentFits, AtRest, Exchanged}
 use Rattle.station.proofs.Sizes.{isolated-station, keeps-size, keeps-others}
 use Rattle.station.proofs.Outcome.{block-numbered}
 use Rattle.station.proofs.Refusals.{numbered-by-table, is-refused, empty-reply, reply-stands, foreign-axis, unreadable-block}
-use Rattle.station.proofs.Stays.{fresh-parts, stays, never-ill-formed}
+use Rattle.station.proofs.Stays.{fresh-parts, never-ill-formed}
 use Rattle.station.proofs.Sends.{sends-waiting}
 use Rattle.station.proofs.Exchange.{responds-as-ruled}
 
@@ -107,11 +106,11 @@ unfolding readable request
 ten k p = block-numbered k [] p
 
 -- ReplyStands: the four bytes of a denial, and nothing past them
-denial : (m p : List ℕ) → refusalOf 2 marks (length m) p ≡ 11 → frameReply 2 marks m p ≡ (0xDF ∷ 0x80 ∷ 0xB6 ∷ 0 ∷ []) ++ drop 4 m
+denial : (m p : List ℕ) → frameRefusal 2 marks (length m) p ≡ 11 → frameReply 2 marks m p ≡ (0xDF ∷ 0x80 ∷ 0xB6 ∷ 0 ∷ []) ++ drop 4 m
 denial m p e = reply-stands 2 marks m p ∙ rw e refl
 
 -- SendsWaiting: a fetch that is answered
-sent : (k : ℕ) (m p : List ℕ) → refusalOf k fetch (length m) p ≡ 0 → readable blockLimit response (waiting p) ≡ true
+sent : (k : ℕ) (m p : List ℕ) → frameRefusal k fetch (length m) p ≡ 0 → readable blockLimit response (waiting p) ≡ true
 sent k m p e = sends-waiting k fetch m p e refl .1
 
 -- RespondsAsRuled: farm 1 and farm 16, with as many bytes as wait and with the most, nothing between and a call of each kind

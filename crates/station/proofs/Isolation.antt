@@ -10,7 +10,7 @@ use lib.Dec.{eqb, leb}
 use lib.ListN.{length}
 use borrow.Author.Tests.{eqb-true, eqb-false, leb-true, le-leb, eq-eqb}
 use Rattle.part.specs.Layout.{partSize}
-use Rattle.station.specs.Parts.{farms, stationSize, partOf, withPart, refusal}
+use Rattle.station.specs.Parts.{farms, stationSize, partOf, withPart, stationRefusal}
 use Rattle.station.specs.Isolation.{Kinds, answer, after, machine, Isolated, Sized}
 use Rattle.station.proofs.Runs.{Owns, same-seen}
 use Rattle.station.proofs.Windows.{length-window, length-with, window-same, window-before, window-after}
@@ -33,14 +33,14 @@ zero-test true false z e = let q : _≡_ {A = ℕ} 0 1 = cc in absurd (omega ari
 zero-test true true false e = let q : _≡_ {A = ℕ} 0 2 = cc in absurd (omega arith)
 zero-test true true true e = (refl, (refl, refl))
 
-pub right : (k n : ℕ) → refusal k n ≡ 0 → Right k n
-unfolding refusal
+pub right : (k n : ℕ) → stationRefusal k n ≡ 0 → Right k n
+unfolding stationRefusal
 right k n e =
     let t = zero-test (leb 1 k) (leb k farms) (eqb n stationSize) e in
     record { low = leb-true 1 k (t .0); high = leb-true k farms (t .1 .0); size = eqb-true n stationSize (t .1 .1) }
 
-pub fine : {k n : ℕ} → Right k n → refusal k n ≡ 0
-unfolding refusal
+pub fine : {k n : ℕ} → Right k n → stationRefusal k n ≡ 0
+unfolding stationRefusal
 fine {k} {n} r = rw (le-leb 1 k (r .low), le-leb k farms (r .high), eq-eqb n stationSize (r .size))
 
 pub fits : {k n : ℕ} → Right k n → (k - 1) * partSize + partSize ≤ n
@@ -52,21 +52,21 @@ start k = (k - 1) * partSize
 
 module _ (K : Kinds) where
   -- a call whose farm and size are right
-  pub took-answer : (c : K .Call) (s : List ℕ) → refusal (K .owner c) (length s) ≡ 0 → answer K c s ≡ K .answers c (partOf (K .owner c) s)
+  pub took-answer : (c : K .Call) (s : List ℕ) → stationRefusal (K .owner c) (length s) ≡ 0 → answer K c s ≡ K .answers c (partOf (K .owner c) s)
   unfolding answer
   took-answer c s e = rw e
 
-  pub took : (c : K .Call) (s : List ℕ) → refusal (K .owner c) (length s) ≡ 0
+  pub took : (c : K .Call) (s : List ℕ) → stationRefusal (K .owner c) (length s) ≡ 0
       → after K c s ≡ withPart (K .owner c) (K .leaves c (partOf (K .owner c) s)) s
   unfolding after
   took c s e = rw e
 
   -- and one for which they are not
-  pub gave-answer : (c : K .Call) (s : List ℕ) (n : ℕ) → refusal (K .owner c) (length s) ≡ suc n → answer K c s ≡ K .refused c (suc n)
+  pub gave-answer : (c : K .Call) (s : List ℕ) (n : ℕ) → stationRefusal (K .owner c) (length s) ≡ suc n → answer K c s ≡ K .refused c (suc n)
   unfolding answer
   gave-answer c s n e = rw e
 
-  pub gave : (c : K .Call) (s : List ℕ) (n : ℕ) → refusal (K .owner c) (length s) ≡ suc n → after K c s ≡ s
+  pub gave : (c : K .Call) (s : List ℕ) (n : ℕ) → stationRefusal (K .owner c) (length s) ≡ suc n → after K c s ≡ s
   unfolding after
   gave c s n e = rw e
 
@@ -80,9 +80,9 @@ module _ (K : Kinds) (sized : Sized K) (c : K .Call) (s : List ℕ) where
 
   -- the size stays
   pub length-after : length (after K c s) ≡ length s
-  length-after = go (refusal (K .owner c) (length s)) refl
+  length-after = go (stationRefusal (K .owner c) (length s)) refl
     where
-      go : (r : ℕ) → refusal (K .owner c) (length s) ≡ r → length (after K c s) ≡ length s
+      go : (r : ℕ) → stationRefusal (K .owner c) (length s) ≡ r → length (after K c s) ≡ length s
       go zero e =
           let g : Right (K .owner c) (length s) = right (K .owner c) (length s) e in
           ap length (took K c s e) ∙ length-with (start (K .owner c)) partSize new s (fits g) (new-length g)
@@ -94,7 +94,7 @@ module _ (K : Kinds) (sized : Sized K) (c : K .Call) (s : List ℕ) where
 
   -- and every other part is as it was
   pub other : (k : ℕ) → Right k (length s) → (K .owner c ≡ k → ⊥) → partOf k (after K c s) ≡ partOf k s
-  other k f d = go (refusal (K .owner c) (length s)) refl
+  other k f d = go (stationRefusal (K .owner c) (length s)) refl
     where
       beside : Right (K .owner c) (length s) → Dec (K .owner c < k) → Dec (k < K .owner c) → partOf k (withPart (K .owner c) new s) ≡ partOf k s
       beside g (yes h) m =
@@ -105,7 +105,7 @@ module _ (K : Kinds) (sized : Sized K) (c : K .Call) (s : List ℕ) where
           (ends k (K .owner c - 1) partSize (f .low) (omega arith))
       beside g (no h) (no m) = absurd (d (omega arith))
 
-      go : (r : ℕ) → refusal (K .owner c) (length s) ≡ r → partOf k (after K c s) ≡ partOf k s
+      go : (r : ℕ) → stationRefusal (K .owner c) (length s) ≡ r → partOf k (after K c s) ≡ partOf k s
       go zero e = ap (partOf k) (took K c s e) ∙ beside (right (K .owner c) (length s) e) (decLt (K .owner c) k) (decLt k (K .owner c))
       go (suc n) e = ap (partOf k) (gave K c s n e)
 

@@ -13,7 +13,7 @@ use Rattle.blocks.specs.Request.{request}
 use Rattle.blocks.specs.Place.{headerOf}
 use Rattle.part.specs.Layout.{waitingLength}
 use Rattle.part.specs.WellFormed.{wellFormed}
-use Rattle.station.specs.Frame.{slot, index, lengthByte, blockOf, isWrite, isRead, lengthFits, refusalOf}
+use Rattle.station.specs.Frame.{slot, index, lengthByte, blockOf, isWrite, isRead, lengthFits, frameRefusal}
 use Rattle.station.specs.Inner.{early}
 
 -- numbers 10 and 11, which are not early
@@ -70,10 +70,10 @@ pub record Passed (k : ℕ) (f : List ℕ) (m : ℕ) (p : List ℕ) : Type 0 whe
   pub head : 4 ≤ length f
   pub function : isWrite f || isRead f ≡ true
   pub turn : (isWrite f && not (eqb (waitingLength p) 0) || isRead f && eqb (waitingLength p) 0) ≡ false
-  pub number : refusalOf k f m p ≡ blockNumber k f
+  pub number : frameRefusal k f m p ≡ blockNumber k f
 
-pub passes : (k : ℕ) (f : List ℕ) (m : ℕ) (p : List ℕ) → 0 ≡ early (refusalOf k f m p) → Passed k f m p
-unfolding refusalOf
+pub passes : (k : ℕ) (f : List ℕ) (m : ℕ) (p : List ℕ) → 0 ≡ early (frameRefusal k f m p) → Passed k f m p
+unfolding frameRefusal
 passes k f m p e =
     let t =
     passed (not (wellFormed k p)) (ltb m 244) (ltb (length f) 4 || not (isWrite f || isRead f)) (not (eqb (slot f) 0)) (not (eqb (index f) 47)) (not (lengthFits f))

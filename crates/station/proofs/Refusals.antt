@@ -3,12 +3,12 @@ use mathlib.Core.Path.{_≡_, refl, sym, ap, _∙_}
 use mathlib.Core.Bool.{Bool, true, false, cond, not, _&&_, _||_, true≢false}
 use mathlib.Core.List.{List, [], _∷_}
 use mathlib.Core.Logic.{_⊎_, inl, inr}
-use Prim.Native.Nat.{ℕ, zero, suc, _+_, _-_, _*_, _≤_, _<_}
+use Prim.Native.Nat.{ℕ, zero, suc, _+_, _-_, _*_, _≤_}
 use native.Mathlib.Omega.{arith}
 use native.Mathlib.Nat.{zero-add}
-use lib.Dec.{eqb, ltb, leb, lit<, lit≤, eqb·suc-zero}
+use lib.Dec.{eqb, ltb, leb, lit≤, eqb·suc-zero}
 use lib.ListN.{length, drop, length-take}
-use borrow.Author.Tests.{lt-ltb, ltb-false, eqb-true, not-true}
+use borrow.Author.Tests.{ltb-false, eqb-true, not-true}
 use Rattle.codes.specs.Code.{readable}
 use Rattle.codes.proofs.Put.{put-fits, put-none}
 use Rattle.blocks.specs.Block.{blockLimit}
@@ -16,8 +16,8 @@ use Rattle.blocks.specs.Request.{request}
 use Rattle.blocks.specs.Place.{headerOf}
 use Rattle.part.specs.Layout.{partSize, responseAt, waitingLength, responseRoom, waiting}
 use Rattle.part.specs.WellFormed.{wellFormed}
-use Rattle.station.specs.Parts.{farms, stationSize, partOf, withPart, refusal}
-use Rattle.station.specs.Frame.{isWrite, isRead, slot, index, lengthByte, lengthFits, blockOf, refusalOf, codeOf, refusedReply, replyOf, frameAnswer, frameReply, framePart}
+use Rattle.station.specs.Parts.{farms, stationSize, partOf, withPart, stationRefusal}
+use Rattle.station.specs.Frame.{isWrite, isRead, slot, index, lengthByte, lengthFits, blockOf, frameRefusal, codeOf, replyOf, frameAnswer, frameReply, framePart}
 use Rattle.station.specs.Cycle.{cycleRefusal, cycleAnswer, cyclePart}
 use Rattle.station.specs.Isolation.{answer, after}
 use Rattle.station.specs.Calls.{Call, cycle, frame, kinds, owner, refused, answers, leaves}
@@ -30,7 +30,7 @@ use Rattle.station.proofs.Windows.{with-same}
 -- the number by which the work on a part is refused
 abbrev pub partRefusal : Call → List ℕ → ℕ
 partRefusal (cycle axis i) p = cycleRefusal axis i p
-partRefusal (frame farm f m) p = refusalOf farm f (length m) p
+partRefusal (frame farm f m) p = frameRefusal farm f (length m) p
 
 part-answer : (c : Call) (p : List ℕ) (n : ℕ) → partRefusal c p ≡ suc n → answers c p ≡ refused c (suc n)
 unfolding cycleAnswer frameAnswer frameReply
@@ -54,14 +54,14 @@ number-by (frame farm f m) n = refl
 
 -- a call is refused, for its farm or size or for its part, or it is done
 pub data Way (c : Call) (s : List ℕ) : Type 0 where
-  stopped : (n : ℕ) → (refusal (owner c) (length s) ≡ suc n) ⊎ ((refusal (owner c) (length s) ≡ 0) × (partRefusal c (partOf (owner c) s) ≡ suc n))
+  stopped : (n : ℕ) → (stationRefusal (owner c) (length s) ≡ suc n) ⊎ ((stationRefusal (owner c) (length s) ≡ 0) × (partRefusal c (partOf (owner c) s) ≡ suc n))
       → answer kinds c s ≡ refused c (suc n) → after kinds c s ≡ s → Way c s
   done : numberIn (answer kinds c s) ≡ 0 → partRefusal c (partOf (owner c) s) ≡ 0 → Way c s
 
 pub way : (c : Call) (s : List ℕ) → Way c s
-way c s = go (refusal (owner c) (length s)) refl (partRefusal c (partOf (owner c) s)) refl
+way c s = go (stationRefusal (owner c) (length s)) refl (partRefusal c (partOf (owner c) s)) refl
   where
-    go : (r : ℕ) → refusal (owner c) (length s) ≡ r → (n : ℕ) → partRefusal c (partOf (owner c) s) ≡ n → Way c s
+    go : (r : ℕ) → stationRefusal (owner c) (length s) ≡ r → (n : ℕ) → partRefusal c (partOf (owner c) s) ≡ n → Way c s
     go (suc r) e n d = stopped r (inl e) (gave-answer kinds c s r e) (gave kinds c s r e)
     go zero e (suc n) d =
         stopped n (inr (e, d)) (took-answer kinds c s e ∙ part-answer c (partOf (owner c) s) n d)
@@ -89,7 +89,7 @@ late-number false true w rest e = absurd (omega arith)
 late-number false false w rest e = refl
 
 part-tests : (c : Call) (p : List ℕ) → partRefusal c p ≡ cond (not (wellFormed (owner c) p)) 2 (laterTests c p)
-unfolding cycleRefusal refusalOf
+unfolding cycleRefusal frameRefusal
 part-tests (cycle axis i) p = refl
 part-tests (frame farm f m) p = refl
 
@@ -101,8 +101,8 @@ part-number c p = go (partRefusal c p) refl
     go (suc n) e = ap numberIn (part-answer c p n e) ∙ (number-by c (suc n) ∙ sym e)
 
 pub numbered-by-table : NumberedByTable
-unfolding refusal
-numbered-by-table c s = go (refusal (owner c) (length s)) refl
+unfolding stationRefusal
+numbered-by-table c s = go (stationRefusal (owner c) (length s)) refl
   where
     out : Bool
     out = not (leb 1 (owner c) && leb (owner c) farms)
@@ -113,7 +113,7 @@ numbered-by-table c s = go (refusal (owner c) (length s)) refl
     ill : Bool
     ill = not (wellFormed (owner c) (partOf (owner c) s))
 
-    go : (n : ℕ) → refusal (owner c) (length s) ≡ n → numberIn (answer kinds c s) ≡ tableNumber c s
+    go : (n : ℕ) → stationRefusal (owner c) (length s) ≡ n → numberIn (answer kinds c s) ≡ tableNumber c s
     go (suc n) e = ap numberIn (gave-answer kinds c s n e) ∙ (number-by c (suc n) ∙ sym (early-number out other ill (laterTests c (partOf (owner c) s)) n e))
     go zero e =
         ap numberIn (took-answer kinds c s e)
@@ -150,8 +150,8 @@ framing : (k : ℕ) (f : List ℕ) (m : ℕ) (p : List ℕ) → 244 ≤ m
     → (b : Bool) (n r : ℕ) → 4 ≤ n → n ≤ 11 → (b ≡ false → Says k f m p r) → Says k f m p (cond b n r)
 framing k f m p room b n r low high more = by-test (Says k f m p) b n r (λ e. framed low high room) more
 
-pub says : (k : ℕ) (f : List ℕ) (m : ℕ) (p : List ℕ) → Says k f m p (refusalOf k f m p)
-unfolding refusalOf
+pub says : (k : ℕ) (f : List ℕ) (m : ℕ) (p : List ℕ) → Says k f m p (frameRefusal k f m p)
+unfolding frameRefusal
 says k f m p =
     by-test (Says k f m p) (not (wellFormed k p)) 2 _ (λ e. ill-formed refl (not-true (wellFormed k p) e)) (λ two.
     by-test (Says k f m p) (ltb m 244) 3 _ (λ e. small refl) (λ three.
@@ -182,7 +182,7 @@ not-mine k f m s is isnt = is-refused (frame k f m) s (λ z. go z (way (frame k 
 
     go : numberIn (answer kinds (frame k f m) s) ≡ 0 → Way (frame k f m) s → ⊥
     go z (stopped n why a same) = let e : _≡_ {A = ℕ} 0 (suc n) = sym z ∙ (ap numberIn a ∙ number-by (frame k f m) (suc n)) in omega arith
-    go z (done e d) = works (refusalOf k f (length m) (partOf k s)) d (says k f (length m) (partOf k s))
+    go z (done e d) = works (frameRefusal k f (length m) (partOf k s)) d (says k f (length m) (partOf k s))
 
 pub foreign-axis : ForeignAxis
 foreign-axis k f m s is other = not-mine k f m s is (λ y. other (y .axis))
@@ -205,7 +205,7 @@ reply-bound f p n =
 
 pub reply-stands : ReplyStands
 unfolding frameReply
-reply-stands k f m p = put-fits m 0 (replyOf f p (refusalOf k f (length m) p)) (fit (refusalOf k f (length m) p) (says k f (length m) p)) ∙ rw zero-add
+reply-stands k f m p = put-fits m 0 (replyOf f p (frameRefusal k f (length m) p)) (fit (frameRefusal k f (length m) p) (says k f (length m) p)) ∙ rw zero-add
   where
     fit : (n : ℕ) → Says k f (length m) p n → 0 + length (replyOf f p n) ≤ length m
     fit n (ill-formed e w) = rw e (omega arith)

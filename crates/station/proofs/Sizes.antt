@@ -1,7 +1,7 @@
 -- Every call leaves a part of a part's size; so the station's calls are isolated, and keep its size and the parts of other farms.
 use mathlib.Core.Path.{_≡_, _∙_}
 use mathlib.Core.Bool.{Bool, true, false, cond}
-use mathlib.Core.List.{List, []}
+use mathlib.Core.List.{List}
 use Prim.Native.Nat.{ℕ}
 use lib.Dec.{eqb}
 use lib.ListN.{length}
@@ -11,7 +11,7 @@ use Rattle.part.specs.Layout.{partSize}
 use Rattle.part.proofs.Laws.{response-length}
 use Rattle.part.specs.Record.{putDrive}
 use Rattle.access.proofs.Lengths.{outcome-length}
-use Rattle.station.specs.Frame.{isWrite, blockOf, refusalOf, framePart}
+use Rattle.station.specs.Frame.{isWrite, blockOf, frameRefusal, framePart}
 use Rattle.station.specs.Cycle.{cycleRefusal, cyclePart}
 use Rattle.station.specs.Isolation.{Sized}
 use Rattle.station.specs.Calls.{cycle, frame, kinds}
@@ -35,8 +35,8 @@ unfolding Sized cyclePart framePart
 sized (cycle axis i) p h =
     one-of IsPart (eqb (cycleRefusal axis i p) 0) _ _ (drive-length _ p ∙ h) h
 sized (frame farm f m) p h =
-    one-of IsPart (eqb (refusalOf farm f (length m) p) 0) _ _
-    (one-of IsPart (isWrite f) _ _ (outcome-length farm (blockOf f) p ∙ h) (response-length [] p ∙ h))
+    one-of IsPart (eqb (frameRefusal farm f (length m) p) 0) _ _
+    (one-of IsPart (isWrite f) _ _ (outcome-length farm (blockOf f) p ∙ h) (response-length _ p ∙ h))
     h
 
 pub isolated-station : IsolatedStation

@@ -16,8 +16,8 @@ use Rattle.access.proofs.Keeps.{block-keeps-well-formed}
 use Rattle.part.specs.Layout.{partSize}
 use Rattle.part.specs.Fresh.{freshPart}
 use Rattle.part.specs.WellFormed.{wellFormed}
-use Rattle.station.specs.Parts.{farms, stationSize, window, partOf, refusal, freshParts, freshStation}
-use Rattle.station.specs.Frame.{isWrite, blockOf, refusalOf, framePart}
+use Rattle.station.specs.Parts.{farms, stationSize, window, partOf, stationRefusal, freshParts, freshStation}
+use Rattle.station.specs.Frame.{isWrite, blockOf, frameRefusal, framePart}
 use Rattle.station.specs.Cycle.{inputOf, cycleRefusal, cyclePart}
 use Rattle.station.specs.Runs.{runAnswers, runEnd}
 use Rattle.station.specs.Isolation.{answer, after, machine}
@@ -64,7 +64,7 @@ unfolding cyclePart framePart
 part-stays (cycle axis i) p fits w =
     one-of (Well axis) (eqb (cycleRefusal axis i p) 0) _ _ (cycle-well-formed axis p (inputOf i p) w (record { stw1 = fits .stw1; nsoll = fits .nsoll; nist = fits .nist; fault = fits .fault })) w
 part-stays (frame farm f m) p fits w =
-    one-of (Well farm) (eqb (refusalOf farm f (length m) p) 0) _ _
+    one-of (Well farm) (eqb (frameRefusal farm f (length m) p) 0) _ _
     (one-of (Well farm) (isWrite f) _ _ (block-keeps-well-formed farm (blockOf f) p w) (no-response-well-formed farm p w))
     w
 
@@ -87,14 +87,14 @@ stays c s fits w =
 abbrev Not2 : ℕ → Type 0
 Not2 n = n ≡ 2 → ⊥
 
-size-not2 : (k n : ℕ) → n ≡ stationSize → Not2 (refusal k n)
-unfolding refusal
+size-not2 : (k n : ℕ) → n ≡ stationSize → Not2 (stationRefusal k n)
+unfolding stationRefusal
 size-not2 k n h = one-of Not2 (not (leb 1 k && leb k farms)) 1 _ (λ e. omega arith) (rw (eq-eqb n stationSize h) (λ e. omega arith))
 
 part-not2 : (c : Call) (p : List ℕ) → Well (owner c) p → Not2 (partRefusal c p)
 unfolding cycleRefusal
 part-not2 (cycle axis i) p w = rw w (one-of Not2 (ltb 3 (i .flags)) 12 0 (λ e. omega arith) (λ e. omega arith))
-part-not2 (frame farm f m) p w = go (refusalOf farm f (length m) p) (says farm f (length m) p)
+part-not2 (frame farm f m) p w = go (frameRefusal farm f (length m) p) (says farm f (length m) p)
   where
     go : (n : ℕ) → Says farm f (length m) p n → Not2 n
     go n (ill-formed e ill) t = true≢false (sym w ∙ ill)
@@ -105,7 +105,7 @@ part-not2 (frame farm f m) p w = go (refusalOf farm f (length m) p) (says farm f
 call-not2 : (c : Call) (s : List ℕ) → WellFormedStation s → Not2 (numberIn (answer kinds c s))
 call-not2 c s w two = go (way c s)
   where
-    by : (n : ℕ) → suc n ≡ 2 → (refusal (owner c) (length s) ≡ suc n) ⊎ ((refusal (owner c) (length s) ≡ 0) × (partRefusal c (partOf (owner c) s) ≡ suc n)) → ⊥
+    by : (n : ℕ) → suc n ≡ 2 → (stationRefusal (owner c) (length s) ≡ suc n) ⊎ ((stationRefusal (owner c) (length s) ≡ 0) × (partRefusal c (partOf (owner c) s) ≡ suc n)) → ⊥
     by n e (inl x) = size-not2 (owner c) (length s) (w .size) (x ∙ e)
     by n e (inr x) =
         let g = right (owner c) (length s) (x .0) in

@@ -23,8 +23,8 @@ use Rattle.access.specs.Address.{checked}
 use Rattle.access.specs.Read.{readBlock}
 use Rattle.access.specs.Change.{changeOne}
 use Rattle.access.specs.Work.{worked, outcomeOf}
-use Rattle.station.specs.Parts.{farms, stationSize, partOf, withPart, freshParts, window, withWindow, refusal}
-use Rattle.station.specs.Frame.{refusalOf, frameAnswer, frameReply, framePart}
+use Rattle.station.specs.Parts.{farms, stationSize, partOf, withPart, freshParts, window, withWindow, stationRefusal}
+use Rattle.station.specs.Frame.{frameRefusal, frameAnswer, frameReply, framePart}
 use Rattle.station.specs.Cycle.{cycleRefusal, cycleAnswer, cyclePart}
 use Rattle.station.specs.Runs.{runAnswers, runEnd}
 use Rattle.station.specs.Isolation.{answer, after, machine}
@@ -39,11 +39,11 @@ abbrev calls : List Call
 calls = map (λ w. w .call) workedCalls
 
 answers-computed : runAnswers (machine kinds) calls (freshParts farms) ≡ map (λ w. w .answer) workedCalls
-unfolding readable numberAt put formatSize valueSize changeBlockFits responseBlockFits valuesOf valuesSize block address requestBlocks request responseBlocks hasError errorsFit response wordOf wordUsed setpointUsed afterAck afterCode stateAfter effectiveOf nearOf fastOf statusOf cycleOf rows parameterBytes findOf offsetOf inside elementOf putElement withResponse stateOf driveOf putDrive freshPart limitsFit fixedFit waitingFits unusedFit wellFormed checked readBlock changeOne worked outcomeOf window withWindow refusal refusalOf frameAnswer frameReply framePart cycleRefusal cycleAnswer cyclePart runAnswers answer after
+unfolding readable numberAt put formatSize valueSize changeBlockFits responseBlockFits valuesOf valuesSize block address requestBlocks request responseBlocks hasError errorsFit response wordOf wordUsed setpointUsed afterAck afterCode stateAfter effectiveOf nearOf fastOf statusOf cycleOf rows parameterBytes findOf offsetOf inside elementOf putElement withResponse stateOf driveOf putDrive freshPart limitsFit fixedFit waitingFits unusedFit wellFormed checked readBlock changeOne worked outcomeOf window withWindow stationRefusal frameRefusal frameAnswer frameReply framePart cycleRefusal cycleAnswer cyclePart runAnswers answer after
 answers-computed = refl
 
 end-computed : runEnd (machine kinds) calls (freshParts farms) ≡ withPart 1 endedPart (freshParts farms)
-unfolding readable numberAt put formatSize valueSize changeBlockFits responseBlockFits valuesOf valuesSize block address requestBlocks request responseBlocks hasError errorsFit response wordOf wordUsed setpointUsed afterAck afterCode stateAfter effectiveOf nearOf fastOf statusOf cycleOf rows parameterBytes findOf offsetOf inside elementOf putElement withResponse stateOf driveOf putDrive freshPart limitsFit fixedFit waitingFits unusedFit wellFormed checked readBlock changeOne worked outcomeOf window withWindow refusal refusalOf frameAnswer frameReply framePart cycleRefusal cycleAnswer cyclePart runEnd answer after
+unfolding readable numberAt put formatSize valueSize changeBlockFits responseBlockFits valuesOf valuesSize block address requestBlocks request responseBlocks hasError errorsFit response wordOf wordUsed setpointUsed afterAck afterCode stateAfter effectiveOf nearOf fastOf statusOf cycleOf rows parameterBytes findOf offsetOf inside elementOf putElement withResponse stateOf driveOf putDrive freshPart limitsFit fixedFit waitingFits unusedFit wellFormed checked readBlock changeOne worked outcomeOf window withWindow stationRefusal frameRefusal frameAnswer frameReply framePart cycleRefusal cycleAnswer cyclePart runEnd answer after
 end-computed = refl
 
 marks-computed : wordsAt 4 endedPart (offsetOf 30001) ≡ 1000 ∷ 0 ∷ 0 ∷ 0 ∷ []

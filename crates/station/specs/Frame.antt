@@ -55,8 +55,8 @@ frameTests k f m p =
     0))))))))
 
 -- "The order of checks is the order of numbers.", from 2 on
-unfoldable pub refusalOf : ℕ → List ℕ → ℕ → List ℕ → ℕ
-refusalOf k f m p = cond (not (wellFormed k p)) 2 (frameTests k f m p)
+unfoldable pub frameRefusal : ℕ → List ℕ → ℕ → List ℕ → ℕ
+frameRefusal k f m p = cond (not (wellFormed k p)) 2 (frameTests k f m p)
 
 -- "Returned": the code of a number from 5 to 11
 abbrev pub codeOf : ℕ → ℕ
@@ -90,7 +90,7 @@ workedPart k f p = cond (isWrite f) (outcomeOf k (blockOf f) p .part) (withRespo
 -- station after any refusal, stay unchanged, and 0 elements are stored."
 unfoldable pub frameAnswer : ℕ → List ℕ → List ℕ → List ℕ → Framed
 frameAnswer k f m p =
-    let n = refusalOf k f (length m) p in
+    let n = frameRefusal k f (length m) p in
     record {
       length = length (replyOf f p n);
       stored = cond (eqb n 0 && isWrite f) (outcomeOf k (blockOf f) p .stored) 0;
@@ -98,7 +98,7 @@ frameAnswer k f m p =
     }
 
 unfoldable pub frameReply : ℕ → List ℕ → List ℕ → List ℕ → List ℕ
-frameReply k f m p = put m 0 (replyOf f p (refusalOf k f (length m) p))
+frameReply k f m p = put m 0 (replyOf f p (frameRefusal k f (length m) p))
 
 unfoldable pub framePart : ℕ → List ℕ → List ℕ → List ℕ → List ℕ
-framePart k f m p = cond (eqb (refusalOf k f (length m) p) 0) (workedPart k f p) p
+framePart k f m p = cond (eqb (frameRefusal k f (length m) p) 0) (workedPart k f p) p

@@ -5,7 +5,7 @@ use Prim.Native.Nat.{ℕ, zero, suc, _≤_}
 use lib.Dec.{eqb}
 use lib.ListN.{length}
 use Rattle.part.specs.Layout.{partSize}
-use Rattle.station.specs.Parts.{farms, stationSize, partOf, withPart, refusal}
+use Rattle.station.specs.Parts.{farms, stationSize, partOf, withPart, stationRefusal}
 use Rattle.station.specs.Runs.{Machine, SameSeen}
 
 -- whose each call is, its answer where its farm or the size is refused, and what it answers and leaves on its owner's part
@@ -27,10 +27,10 @@ leftBy K (suc n) c s = s
 
 -- the answer to a call, and the station after it
 unfoldable pub answer : (K : Kinds) → K .Call → List ℕ → K .Answer
-answer K c s = answerBy K (refusal (K .owner c) (length s)) c s
+answer K c s = answerBy K (stationRefusal (K .owner c) (length s)) c s
 
 unfoldable pub after : (K : Kinds) → K .Call → List ℕ → List ℕ
-after K c s = leftBy K (refusal (K .owner c) (length s)) c s
+after K c s = leftBy K (stationRefusal (K .owner c) (length s)) c s
 
 abbrev pub machine : Kinds → Machine
 machine K = record { State = List ℕ; Call = K .Call; Answer = K .Answer; answer = answer K; after = after K }

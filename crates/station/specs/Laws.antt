@@ -19,7 +19,7 @@ use Rattle.access.specs.Work.{worked, outcomeOf}
 use Rattle.part.specs.Fresh.{freshPart}
 use Rattle.part.specs.WellFormed.{wellFormed}
 use Rattle.station.specs.Parts.{farms, stationSize, partOf, freshStation}
-use Rattle.station.specs.Frame.{isWrite, blockOf, frameTests, refusalOf, replyOf, frameReply}
+use Rattle.station.specs.Frame.{isWrite, blockOf, frameTests, frameRefusal, replyOf, frameReply}
 use Rattle.station.specs.Cycle.{Sent, cycleTests, cyclePart}
 use Rattle.station.specs.Runs.{runAnswers, runEnd}
 use Rattle.station.specs.Isolation.{Isolated, answer, after, machine}
@@ -55,7 +55,7 @@ tableNumber c s =
     (cond (not (eqb (length s) stationSize) || not (wellFormed k (partOf k s))) 2
     (laterTests c (partOf k s)))
 
--- every call is numbered by the table, wherever its number is decided: 1 and the size of 2 before any part is looked at (`refusal`),
+-- every call is numbered by the table, wherever its number is decided: 1 and the size of 2 before any part is looked at (`stationRefusal`),
 abbrev pub NumberedByTable : Type 0
 NumberedByTable = (c : Call) (s : List ℕ) → numberIn (answer kinds c s) ≡ tableNumber c s
 
@@ -85,7 +85,7 @@ EmptyReply =
 abbrev pub ReplyStands : Type 0
 ReplyStands =
     (k : ℕ) (f m p : List ℕ)
-    → let reply = replyOf f p (refusalOf k f (length m) p) in frameReply k f m p ≡ reply ++ drop (length reply) m
+    → let reply = replyOf f p (frameRefusal k f (length m) p) in frameReply k f m p ≡ reply ++ drop (length reply) m
 
 -- Demand 1: "a frame for another farm's axis changes no stored element", whatever else is wrong with it
 abbrev pub ForeignAxis : Type 0
@@ -195,5 +195,5 @@ CycleKeepsWaiting = (k : ℕ) (i : Sent) (p : List ℕ) → waiting (cyclePart k
 -- and what is sent is what waits, and is readable
 abbrev pub SendsWaiting : Type 0
 SendsWaiting =
-    (k : ℕ) (f m p : List ℕ) → refusalOf k f (length m) p ≡ 0 → isWrite f ≡ false
+    (k : ℕ) (f m p : List ℕ) → frameRefusal k f (length m) p ≡ 0 → isWrite f ≡ false
     → (frameReply k f m p ≡ put m 0 (0x5E ∷ 0 ∷ 0x2F ∷ waitingLength p ∷ waiting p)) × (readable blockLimit response (waiting p) ≡ true)

@@ -29,8 +29,8 @@ abbrev pub withPart : ℕ → List ℕ → List ℕ → List ℕ
 withPart k ys s = withWindow ((k - 1) * partSize) partSize ys s
 
 -- number 1, "farm or axis not 1..16", and number 2, "station memory of wrong size"; else 0
-unfoldable pub refusal : ℕ → ℕ → ℕ
-refusal k size =
+unfoldable pub stationRefusal : ℕ → ℕ → ℕ
+stationRefusal k size =
     cond (not (leb 1 k && leb k farms)) 1
     (cond (not (eqb size stationSize)) 2
     0)

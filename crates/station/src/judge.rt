@@ -4,7 +4,7 @@ ghost use mathlib.Core.Bool.{not, _&&_, _||_};
 ghost use Prim.Native.Nat.{_≤_};
 ghost use lib.Dec.{eqb, ltb};
 ghost use lib.ListN.{length};
-ghost use Rattle.station.specs.Frame.{function, lengthFits, refusalOf};
+ghost use Rattle.station.specs.Frame.{function, lengthFits, frameRefusal};
 ghost use Rattle.station.specs.Inner.{early};
 
 // Functions.
@@ -74,7 +74,7 @@ fn wants_fewer(function: u8, wanted: u8, waiting: u8) -> bool
 
 // The refusal of a frame by numbers 2 to 9; 0 where its block is left to judge. `room` is the size of the reply memory.
 pub(crate) fn judge(part: &[u8], k: u8, f: &[u8], room: usize) -> u8
-    ensures { λ r. ⌜ r ≡ early (refusalOf k (now (f .entry)) room (now (part .entry))) ⌝ }
+    ensures { λ r. ⌜ r ≡ early (frameRefusal k (now (f .entry)) room (now (part .entry))) ⌝ }
 {
     if !part::well_formed(part, k) {
         return 2;

@@ -1,6 +1,6 @@
 // The station: 16 parts in memory that the caller lends, and the calls on them.
 ghost use mathlib.Core.Path.{_≡_};
-ghost use Rattle.station.specs.Parts.{stationSize, refusal, freshNumber, freshStation};
+ghost use Rattle.station.specs.Parts.{stationSize, stationRefusal, freshNumber, freshStation};
 ghost use Rattle.station.specs.Isolation.{answer, after};
 ghost use Rattle.station.specs.Calls.{kinds, cycle, frame, toCycle, toFrame};
 
@@ -40,7 +40,7 @@ pub fn size() -> usize
 
 // Numbers 1 and 2, for a farm or axis and the bytes of the memory that is lent; else 0.
 fn refused(k: u32, size: usize) -> u8
-    ensures { λ r. ⌜ r ≡ refusal k size ⌝ }
+    ensures { λ r. ⌜ r ≡ stationRefusal k size ⌝ }
 {
     if k == 0 {
         return 1;

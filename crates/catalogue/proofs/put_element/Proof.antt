@@ -1,11 +1,6 @@
 -- The place of an element of 16 bits' index fits.
 use Rattle.catalogue.specs.Element.{putElement}
 use Rattle.catalogue.proofs.Elements.{index-small}
-use Rattle.codes.specs.Code.{word}
-use Rattle.codes.specs.Number.{put}
-use mathlib.Core.Path.{_∙_, ap}
-use Prim.Native.Nat.{ℕ, _+_, _*_}
-use denote.Ref.{now}
 use native.Mathlib.Omega.{arith}
 use borrow.Author.Needs.{needs}
 use Rattle.catalogue.proofs.put_element.Statement.{statement}
@@ -31,10 +26,7 @@ same-length c = search needs
 
 returns : tie.Need-returns
 unfolding putElement
-returns c =
-    let a = c .before .before .before .before .before .before .before .args in
-    c .before .before .put-number .ensures
-    ∙ ap (λ (z : ℕ). put (now (a .part)) (a .r .offset + a .i * z) (word z .write (a .x))) (c .before .before .before .before .before .element-size .ensures)
+returns c = rw (c .before .before .before .before .before .element-size .ensures) at (c .before .before .put-number .ensures)
 
 pub put-element-spec : {M : Type 1} → statement M
 put-element-spec =

@@ -1,29 +1,29 @@
 -- The tests of farm and size are those of the definition.
 use Rattle.catalogue.specs.Table.{rows, parameterBytes}
-use Rattle.station.specs.Parts.{farms, refusal}
+use Rattle.station.specs.Parts.{farms, stationRefusal}
 use borrow.Author.Tests.{le-leb, lt-leb, eq-eqb, ne-eqb}
 use native.Mathlib.Omega.{arith}
 use Rattle.station.proofs.refused.Statement.{statement}
 use Rattle.station.proofs.refused.Tie as tie
 
 returns : tie.Need-returns
-unfolding refusal
+unfolding stationRefusal
 returns c = rw (lt-leb 1 (c .before .args .k) (omega arith))
 
 returns-2 : tie.Need-returns-2
-unfolding refusal
+unfolding stationRefusal
 returns-2 c =
     let k = c .before .before .args .k in
     rw (le-leb 1 k (omega arith), lt-leb k farms (omega arith))
 
 returns-3 : tie.Need-returns-3
-unfolding refusal parameterBytes rows
+unfolding stationRefusal parameterBytes rows
 returns-3 c =
     let k = c .before .before .before .args .k in
     rw (le-leb 1 k (omega arith), le-leb k farms (omega arith), ne-eqb _ _ (c .if3 .taken))
 
 returns-4 : tie.Need-returns-4
-unfolding refusal parameterBytes rows
+unfolding stationRefusal parameterBytes rows
 returns-4 c =
     let k = c .before .before .before .args .k in
     rw (le-leb 1 k (omega arith), le-leb k farms (omega arith), eq-eqb _ _ (c .if3 .left))

@@ -1,6 +1,5 @@
 -- The attribute, then the rule of a simple parameter or of an array.
 use borrow.Author.Tests.{eq-eqb, ne-eqb}
-use borrow.Author.Needs.{needs}
 use Rattle.access.proofs.address.of_row.Statement.{statement}
 use Rattle.access.proofs.address.of_row.Tie as tie
 

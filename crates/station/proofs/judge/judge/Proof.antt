@@ -1,7 +1,7 @@
 -- Each test of the code is one of the definition, in its order; the tests 10 and 11 that are left give no early number.
 use mathlib.Core.Path.{sym, _∙_}
 use borrow.Author.Tests.{lt-ltb, le-ltb, eq-eqb, ne-eqb, not-true, not-false}
-use Rattle.station.specs.Frame.{refusalOf}
+use Rattle.station.specs.Frame.{frameRefusal}
 use Rattle.station.specs.Inner.{early}
 use Rattle.station.proofs.Judged.{block-late}
 use denote.Ref.{now}
@@ -13,7 +13,7 @@ well-formed-requires : tie.Need-well-formed-requires
 well-formed-requires c κs = search needs
 
 returns : tie.Need-returns
-unfolding early refusalOf
+unfolding early frameRefusal
 returns c =
     rw (sym (c .before .well-formed .ensures) ∙ not-true (c .before .well-formed .result) (c .if1 .taken))
 
@@ -21,7 +21,7 @@ add-if2 : tie.Need-add-if2
 add-if2 c = search needs
 
 returns-2 : tie.Need-returns-2
-unfolding early refusalOf
+unfolding early frameRefusal
 returns-2 c =
     rw (
       sym (c .before .before .well-formed .ensures) ∙ not-false (c .before .before .well-formed .result) (c .before .if1 .left),
@@ -29,7 +29,7 @@ returns-2 c =
     )
 
 returns-3 : tie.Need-returns-3
-unfolding early refusalOf
+unfolding early frameRefusal
 returns-3 c =
     rw (
       sym (c .before .before .before .well-formed .ensures) ∙ not-false (c .before .before .before .well-formed .result) (c .before .before .if1 .left),
@@ -44,7 +44,7 @@ is-function-requires : tie.Need-is-function-requires
 is-function-requires c κs = search needs
 
 returns-4 : tie.Need-returns-4
-unfolding early refusalOf
+unfolding early frameRefusal
 returns-4 c =
     rw (
       sym (c .before .before .before .before .before .before .well-formed .ensures) ∙ not-false (c .before .before .before .before .before .before .well-formed .result) (c .before .before .before .before .before .if1 .left),
@@ -57,7 +57,7 @@ shared-slice-read-if5 : tie.Need-shared-slice-read-if5
 shared-slice-read-if5 c = search needs
 
 returns-5 : tie.Need-returns-5
-unfolding early refusalOf
+unfolding early frameRefusal
 returns-5 c =
     rw (
       sym (c .before .before .before .before .before .before .before .before .well-formed .ensures) ∙ not-false (c .before .before .before .before .before .before .before .before .well-formed .result) (c .before .before .before .before .before .before .before .if1 .left),
@@ -71,7 +71,7 @@ shared-slice-read-if6 : tie.Need-shared-slice-read-if6
 shared-slice-read-if6 c = search needs
 
 returns-6 : tie.Need-returns-6
-unfolding early refusalOf
+unfolding early frameRefusal
 returns-6 c =
     rw (
       sym (c .before .before .before .before .before .before .before .before .before .before .well-formed .ensures) ∙ not-false (c .before .before .before .before .before .before .before .before .before .before .well-formed .result) (c .before .before .before .before .before .before .before .before .before .if1 .left),
@@ -86,7 +86,7 @@ length-fits-requires : tie.Need-length-fits-requires
 length-fits-requires c κs = search needs
 
 returns-7 : tie.Need-returns-7
-unfolding early refusalOf
+unfolding early frameRefusal
 returns-7 c =
     rw (
       sym (c .before .before .before .before .before .before .before .before .before .before .before .before .well-formed .ensures) ∙ not-false (c .before .before .before .before .before .before .before .before .before .before .before .before .well-formed .result) (c .before .before .before .before .before .before .before .before .before .before .before .if1 .left),
@@ -108,7 +108,7 @@ out-of-turn-requires : tie.Need-out-of-turn-requires
 out-of-turn-requires c κs = search needs
 
 returns-8 : tie.Need-returns-8
-unfolding early refusalOf
+unfolding early frameRefusal
 returns-8 c =
     rw (
       sym (c .before .before .before .before .before .before .before .before .before .before .before .before .before .before .before .before .well-formed .ensures) ∙ not-false (c .before .before .before .before .before .before .before .before .before .before .before .before .before .before .before .before .well-formed .result) (c .before .before .before .before .before .before .before .before .before .before .before .before .before .before .before .if1 .left),
@@ -131,7 +131,7 @@ wants-fewer-requires : tie.Need-wants-fewer-requires
 wants-fewer-requires c κs = search needs
 
 returns-9 : tie.Need-returns-9
-unfolding early refusalOf
+unfolding early frameRefusal
 returns-9 c =
     rw (
       sym (c .before .before .before .before .before .before .before .before .before .before .before .before .before .before .before .before .before .before .before .before .well-formed .ensures) ∙ not-false (c .before .before .before .before .before .before .before .before .before .before .before .before .before .before .before .before .before .before .before .before .well-formed .result) (c .before .before .before .before .before .before .before .before .before .before .before .before .before .before .before .before .before .before .before .if1 .left),
@@ -146,7 +146,7 @@ returns-9 c =
     )
 
 returns-10 : tie.Need-returns-10
-unfolding refusalOf
+unfolding frameRefusal
 returns-10 c =
     rw (
       sym (c .before .before .before .before .before .before .before .before .before .before .before .before .before .before .before .before .before .before .before .before .well-formed .ensures) ∙ not-false (c .before .before .before .before .before .before .before .before .before .before .before .before .before .before .before .before .before .before .before .before .well-formed .result) (c .before .before .before .before .before .before .before .before .before .before .before .before .before .before .before .before .before .before .before .if1 .left),
