@@ -24,7 +24,7 @@ use Rattle.station.specs.Cycle.{Sent}
 use Rattle.station.specs.Runs.{SameSeen, runAnswers}
 use Rattle.station.specs.Isolation.{Isolated, answer, after, machine}
 use Rattle.station.specs.Calls.{Call, cycle, frame, toFrame, owner, kinds}
-use Rattle.station.specs.Worked.{marks, fetch}
+use Rattle.station.specs.Worked.{marksFrame, fetchFrame}
 use Rattle.station.specs.Laws.{numberIn, Refuses, WellFormedStation, SentFits, AtRest, Exchanged}
 use Rattle.station.proofs.Sizes.{isolated-station, keeps-size, keeps-others}
 use Rattle.station.proofs.Outcome.{block-numbered}
@@ -93,9 +93,9 @@ no-frame m s w room =
 
 -- ForeignAxis, UnreadableBlock and BlockNumbered: farm 2 with the frame of farm 1, and a frame without a block
 module _ (m s : List ℕ) where
-  denied : Refuses (frame 2 marks m) s
+  denied : Refuses (frame 2 marksFrame m) s
   unfolding numberAt
-  denied = foreign-axis 2 marks m s refl (λ e. omega arith)
+  denied = foreign-axis 2 marksFrame m s refl (λ e. omega arith)
 
   blockless : (k : ℕ) → Refuses (frame k (0x5F ∷ 0 ∷ 0x2F ∷ 0 ∷ []) m) s
   unfolding readable request
@@ -106,12 +106,12 @@ unfolding readable request
 ten k p = block-numbered k [] p
 
 -- ReplyStands: the four bytes of a denial, and nothing past them
-denial : (m p : List ℕ) → frameRefusal 2 marks (length m) p ≡ 11 → frameReply 2 marks m p ≡ (0xDF ∷ 0x80 ∷ 0xB6 ∷ 0 ∷ []) ++ drop 4 m
-denial m p e = reply-stands 2 marks m p ∙ rw e refl
+denial : (m p : List ℕ) → frameRefusal 2 marksFrame (length m) p ≡ 11 → frameReply 2 marksFrame m p ≡ (0xDF ∷ 0x80 ∷ 0xB6 ∷ 0 ∷ []) ++ drop 4 m
+denial m p e = reply-stands 2 marksFrame m p ∙ rw e refl
 
 -- SendsWaiting: a fetch that is answered
-sent : (k : ℕ) (m p : List ℕ) → frameRefusal k fetch (length m) p ≡ 0 → readable blockLimit response (waiting p) ≡ true
-sent k m p e = sends-waiting k fetch m p e refl .1
+sent : (k : ℕ) (m p : List ℕ) → frameRefusal k fetchFrame (length m) p ≡ 0 → readable blockLimit response (waiting p) ≡ true
+sent k m p e = sends-waiting k fetchFrame m p e refl .1
 
 -- RespondsAsRuled: farm 1 and farm 16, with as many bytes as wait and with the most, nothing between and a call of each kind
 module _ (r : Request) (fits : RequestFits r) (short : length (requestBytes r) ≤ 240) (s m w : List ℕ) (room : 244 ≤ length m) (wide : 244 ≤ length w) where

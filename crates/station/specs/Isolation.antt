@@ -33,7 +33,7 @@ unfoldable pub after : (K : Kinds) → K .Call → List ℕ → List ℕ
 after K c s = leftBy K (stationRefusal (K .owner c) (length s)) c s
 
 abbrev pub machine : Kinds → Machine
-machine K = record { State = List ℕ; Call = K .Call; Answer = K .Answer; answer = answer K; after = after K }
+machine K = record { Memory = List ℕ; Call = K .Call; Answer = K .Answer; answer = answer K; after = after K }
 
 -- Demand 2: "Two runs that agree on one farm's starting part and calls give that farm the same answers and the same part, whatever
 -- the others do."

@@ -160,8 +160,8 @@ module _ (k : ℕ) (r : Request) (s m : List ℕ) (between : List Call) (n : ℕ
   ruled = worked r (partOf k s) .response
 
   -- the station when it is fetched
-  abbrev pub later : List ℕ
-  later = runEnd (machine kinds) between (after kinds (frame k (writeOf r) m) s)
+  abbrev pub atFetch : List ℕ
+  atFetch = runEnd (machine kinds) between (after kinds (frame k (writeOf r) m) s)
 
   pub record Exchanged : Type 0 where
     pub fits : ResponseFits ruled
@@ -170,9 +170,9 @@ module _ (k : ℕ) (r : Request) (s m : List ℕ) (between : List Call) (n : ℕ
         answer kinds (frame k (writeOf r) m) s
         ≡ replied (0x5F ∷ 0 ∷ 0x2F ∷ length (requestBytes r) ∷ []) (worked r (partOf k s) .stored) m
     pub answered :
-        answer kinds (frame k (fetchOf n) w) later
+        answer kinds (frame k (fetchOf n) w) atFetch
         ≡ replied (0x5E ∷ 0 ∷ 0x2F ∷ length (responseBytes ruled) ∷ responseBytes ruled) 0 w
-    pub idle : waitingLength (partOf k (after kinds (frame k (fetchOf n) w) later)) ≡ 0
+    pub idle : waitingLength (partOf k (after kinds (frame k (fetchOf n) w) atFetch)) ≡ 0
 
 abbrev pub RespondsAsRuled : Type 0
 RespondsAsRuled =

@@ -38,14 +38,14 @@ frameExample farm f stored reply number =
     }
 
 -- "The write frame: 5F 00 2F 10 07 02 01 01 10 02 75 31 00 00 42 02 03 E8 0B B9": marks 1000 and 3001
-abbrev pub marks : List ℕ
-marks =
+abbrev pub marksFrame : List ℕ
+marksFrame =
     0x5F ∷ 0x00 ∷ 0x2F ∷ 0x10 ∷ 0x07 ∷ 0x02 ∷ 0x01 ∷ 0x01 ∷ 0x10 ∷ 0x02 ∷ 0x75 ∷ 0x31 ∷ 0x00 ∷ 0x00 ∷ 0x42 ∷ 0x02 ∷ 0x03 ∷ 0xE8
     ∷ 0x0B ∷ 0xB9 ∷ []
 
 -- "fetches with F0"
-abbrev pub fetch : List ℕ
-fetch = 0x5E ∷ 0x00 ∷ 0x2F ∷ 0xF0 ∷ []
+abbrev pub fetchFrame : List ℕ
+fetchFrame = 0x5E ∷ 0x00 ∷ 0x2F ∷ 0xF0 ∷ []
 
 -- an address of all 947, and what it reads where no situation has a code
 abbrev pub all947 : List ℕ
@@ -55,11 +55,11 @@ abbrev pub empty947 : List ℕ
 empty947 = 0x42 ∷ 0x20 ∷ replicate 64 0
 
 -- "four reads of all 947 (the fourth gets 0x15; block length 206)"
-abbrev pub reads : List ℕ
-reads = 0x5F ∷ 0x00 ∷ 0x2F ∷ 0x1C ∷ 0x08 ∷ 0x01 ∷ 0x01 ∷ 0x04 ∷ all947 ++ all947 ++ all947 ++ all947
+abbrev pub readsFrame : List ℕ
+readsFrame = 0x5F ∷ 0x00 ∷ 0x2F ∷ 0x1C ∷ 0x08 ∷ 0x01 ∷ 0x01 ∷ 0x04 ∷ all947 ++ all947 ++ all947 ++ all947
 
-abbrev pub fourth : List ℕ
-fourth =
+abbrev pub readsReply : List ℕ
+readsReply =
     0x5E ∷ 0x00 ∷ 0x2F ∷ 206 ∷ 0x08 ∷ 0x81 ∷ 0x01 ∷ 0x04 ∷ empty947 ++ empty947 ++ empty947 ++ (0x44 ∷ 0x01 ∷ 0x00 ∷ 0x15 ∷ [])
 
 -- the four cycles (P1 to P4), the two frames of farm 1 (P5, P6), the denied frame (P7), and the four reads with their fetch (P8)
@@ -69,11 +69,11 @@ workedCalls =
     ∷ cycleExample 0x047F 0 3 0x0333 0
     ∷ cycleExample 0x047F 0x2000 4 0x0237 750
     ∷ cycleExample 0x047D 0 1 0x0360 0
-    ∷ frameExample 1 marks 1 (0x5F ∷ 0x00 ∷ 0x2F ∷ 0x10 ∷ []) 0
-    ∷ frameExample 1 fetch 0 (0x5E ∷ 0x00 ∷ 0x2F ∷ 0x08 ∷ 0x07 ∷ 0x82 ∷ 0x01 ∷ 0x01 ∷ 0x44 ∷ 0x01 ∷ 0x00 ∷ 0x02 ∷ []) 0
-    ∷ frameExample 2 marks 0 (0xDF ∷ 0x80 ∷ 0xB6 ∷ 0x00 ∷ []) 11
-    ∷ frameExample 1 reads 0 (0x5F ∷ 0x00 ∷ 0x2F ∷ 0x1C ∷ []) 0
-    ∷ frameExample 1 fetch 0 fourth 0
+    ∷ frameExample 1 marksFrame 1 (0x5F ∷ 0x00 ∷ 0x2F ∷ 0x10 ∷ []) 0
+    ∷ frameExample 1 fetchFrame 0 (0x5E ∷ 0x00 ∷ 0x2F ∷ 0x08 ∷ 0x07 ∷ 0x82 ∷ 0x01 ∷ 0x01 ∷ 0x44 ∷ 0x01 ∷ 0x00 ∷ 0x02 ∷ []) 0
+    ∷ frameExample 2 marksFrame 0 (0xDF ∷ 0x80 ∷ 0xB6 ∷ 0x00 ∷ []) 11
+    ∷ frameExample 1 readsFrame 0 (0x5F ∷ 0x00 ∷ 0x2F ∷ 0x1C ∷ []) 0
+    ∷ frameExample 1 fetchFrame 0 readsReply 0
     ∷ []
 
 -- farm 1's part when they are over: fresh, but for what the four cycles left in its drive record, and for mark 0, 1000
