@@ -8,13 +8,13 @@ use lib.Dec.{eqb, lit≤, lit<}
 use lib.IntN.{pos, negsuc}
 use lib.ListN.{length, drop}
 use borrow.Author.Tests.{eq-eqb, le-ltb}
-use Rattle.codes.specs.Code.{AllOf, readable}
+use Rattle.codes.specs.Code.{got, AllOf, readable}
 use Rattle.codes.specs.Number.{numberAt}
 use Rattle.blocks.specs.Block.{blockLimit}
 use Rattle.blocks.specs.Request.{Request, request}
 use Rattle.blocks.specs.Response.{response}
 use Rattle.blocks.specs.Page.{RequestFits, requestBytes, responseBytes}
-use Rattle.part.specs.Layout.{waiting}
+use Rattle.part.specs.Layout.{partSize, waiting}
 use Rattle.part.specs.Fresh.{freshPart}
 use Rattle.access.specs.Work.{worked, outcomeOf}
 use Rattle.access.proofs.Answers.{answer-short}
@@ -30,7 +30,7 @@ use Rattle.station.proofs.Sizes.{isolated-station, keeps-size, keeps-ot
 use Rattle.station.proofs.Outcome.{block-numbered}
 use Rattle.station.proofs.Refusals.{numbered-by-table, is-refused, empty-reply, reply-stands, foreign-axis, unreadable-block}
 use Rattle.station.proofs.Stays.{fresh-parts, never-ill-formed}
-use Rattle.station.proofs.Sends.{sends-waiting}
+use Rattle.station.proofs.Sends.{waits-as-ruled, sends-waiting}
 use Rattle.station.proofs.Exchange.{responds-as-ruled}
 
 -- the numbers at both ends of a cycle's words
@@ -109,7 +109,11 @@ ten k p = block-numbered k [] p
 denial : (m p : List ℕ) → frameRefusal 2 marksFrame (length m) p ≡ 11 → frameReply 2 marksFrame m p ≡ (0xDF ∷ 0x80 ∷ 0xB6 ∷ 0 ∷ []) ++ drop 4 m
 denial m p e = reply-stands 2 marksFrame m p ∙ rw e refl
 
--- SendsWaiting: a fetch that is answered
+-- WaitsAsRuled and SendsWaiting: what waits, and what a fetch sends, is readable
+waits : (k : ℕ) (s p : List ℕ) (r : Request) → length p ≡ partSize → readable blockLimit request s ≡ true → request .read s ≡ got r [] → r .axis ≡ k
+    → readable blockLimit response (waiting (outcomeOf k s p .part)) ≡ true
+waits k s p r size reads back mine = waits-as-ruled k s p r size reads back mine .1
+
 sent : (k : ℕ) (m p : List ℕ) → frameRefusal k fetchFrame (length m) p ≡ 0 → readable blockLimit response (waiting p) ≡ true
 sent k m p e = sends-waiting k fetchFrame m p e refl .1
 

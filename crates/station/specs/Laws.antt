@@ -182,17 +182,17 @@ RespondsAsRuled =
     → length (responseBytes (worked r (partOf k s) .response)) ≤ n → n ≤ blockLimit → 244 ≤ length w
     → Exchanged k r s m between n w
 
--- It is made of three: what waits after a block is worked,
+-- It rests on what waits after a block is worked,
 abbrev pub WaitsAsRuled : Type 0
 WaitsAsRuled =
     (k : ℕ) (s p : List ℕ) (r : Request) → length p ≡ partSize → readable blockLimit request s ≡ true → request .read s ≡ got r [] → r .axis ≡ k
     → (waiting (outcomeOf k s p .part) ≡ response .write (worked r p .response)) × (readable blockLimit response (waiting (outcomeOf k s p .part)) ≡ true)
 
--- a cycle leaves it waiting
+-- and that a cycle leaves it waiting
 abbrev pub CycleKeepsWaiting : Type 0
 CycleKeepsWaiting = (k : ℕ) (i : Sent) (p : List ℕ) → waiting (cyclePart k i p) ≡ waiting p
 
--- and what is sent is what waits, and is readable
+-- of any fetch, whatever was called before it: what is sent is what waits, and is readable
 abbrev pub SendsWaiting : Type 0
 SendsWaiting =
     (k : ℕ) (f m p : List ℕ) → frameRefusal k f (length m) p ≡ 0 → isWrite f ≡ false
