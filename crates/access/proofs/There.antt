@@ -1,25 +1,28 @@
--- What a change stored is there when it is over, where no later address names it; and an address without an error stored all.
+-- What a change stored is there when it is over, where no later address names it; an address without an error stored all; what is
+-- read is there.
 use mathlib.Core.Path.{_≡_, refl, sym, ap, subst, _∙_}
 use mathlib.Core.Bool.{true, false, true≢false}
 use mathlib.Core.List.{List, [], _∷_, _++_, List·Memᴰ}
 use mathlib.Core.Logic.{inl, inr}
-use Prim.Native.Nat.{ℕ, zero, suc, _+_, _-_, _^_, _≤_, _<_}
+use Prim.Native.Nat.{ℕ, zero, suc, _+_, _-_, _*_, _^_, _≤_, _<_}
 use native.Mathlib.Omega.{arith}
+use lib.Dec.{leb}
 use lib.ListN.{length, getD}
 use Rattle.codes.specs.Code.{AllOf}
-use Rattle.blocks.specs.Block.{Block, changeBlockFits}
+use Rattle.blocks.specs.Block.{Block, blockLimit, changeBlockFits}
 use Rattle.blocks.specs.Response.{isError}
 use Rattle.blocks.specs.Page.{BlockFits}
 use Rattle.blocks.specs.declared.reader.Address.{Address}
 use Rattle.catalogue.specs.declared.Row.{Row}
 use Rattle.catalogue.specs.declared.Found.the-variants.{At}
 use Rattle.catalogue.specs.Table.{rows, parameterBytes, findOf, elementSize}
-use Rattle.catalogue.specs.Element.{inside, elementOf, putElement}
+use Rattle.catalogue.specs.Element.{sizeCode, inside, elementOf, putElement}
 use Rattle.catalogue.proofs.Elements.{element-length, element-stored}
 use Rattle.catalogue.proofs.Rows.{found-row, element-inside}
+use Rattle.access.specs.Read.{elementsFrom, blockSize, readBlock}
 use Rattle.access.specs.Change.{Changed, storeFrom, changeOne, changeAll}
 use Rattle.access.specs.Work.{worked}
-use Rattle.access.specs.Laws.{Asked, Allowed, StoredIsThere, AnsweredIsStored}
+use Rattle.access.specs.Laws.{Asked, Allowed, ReadIsThere, StoredIsThere, AnsweredIsStored}
 use Rattle.access.proofs.Checks.{pick}
 use Rattle.access.proofs.Lengths.{change-length}
 use Rattle.access.proofs.Answers.{Stores, change-cases}
@@ -128,3 +131,18 @@ answered-is-stored a b p =
     change-cases a b p (λ c. isError (c .block) ≡ false → c .stored ≡ length (b .values))
     (λ x small e. absurd (true≢false e))
     (λ r n s. store-all r (a .subindex) (b .values) p)
+
+-- n elements in a row, from element i on
+element-there : (r : Row) (i n k : ℕ) (p : List ℕ) → k < n → getD (elementsFrom r i n p) k 0 ≡ elementOf r (i + k) p
+element-there r i zero k p h = absurd (omega arith)
+element-there r i (suc n) zero p h = let z : i + 0 ≡ i = omega arith in rw z refl
+element-there r i (suc n) (suc k) p h = let z : i + suc k ≡ i + 1 + k = omega arith in rw z (element-there r (i + 1) n k p (omega arith))
+
+pub read-is-there : ReadIsThere
+unfolding readBlock
+read-is-there a p used after q n k e =
+    let b : Block = record { format = sizeCode (q .kind); values = elementsFrom q (a .subindex) n p } in
+    rw e
+    (pick (λ (b : Block). isError b ≡ false → k < n → getD (b .values) k 0 ≡ elementOf q (a .subindex + k) p) (leb (used + blockSize b + 4 * after) blockLimit)
+    (λ t ok h. element-there q (a .subindex) n k p h)
+    (λ t ok h. absurd (true≢false ok)))

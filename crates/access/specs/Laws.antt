@@ -22,7 +22,7 @@ use Rattle.part.specs.Layout.{partSize}
 use Rattle.part.specs.WellFormed.{wellFormed}
 use Rattle.access.specs.declared.Checked.the-variants.{Elements}
 use Rattle.access.specs.Address.{checked}
-use Rattle.access.specs.Read.{readBlocks}
+use Rattle.access.specs.Read.{readBlock, readBlocks}
 use Rattle.access.specs.Change.{Changed, changeOne, changeAll}
 use Rattle.access.specs.Work.{worked, outcomeOf}
 
@@ -78,6 +78,12 @@ FailureAnswered =
 -- a request (01) changes no byte and stores nothing
 abbrev pub ReadKeeps : Type 0
 ReadKeeps = (r : Request) (p : List ℕ) → r .identifier ≡ 1 → (worked r p .part ≡ p) × (worked r p .stored ≡ 0)
+
+-- What is read is there: a block of values holds the elements that its address names, in order.
+abbrev pub ReadIsThere : Type 0
+ReadIsThere =
+    (a : Address) (p : List ℕ) (used after : ℕ) (q : Row) (n k : ℕ) → checked a ≡ Elements q n → isError (readBlock p used after a) ≡ false → k < n
+    → getD (readBlock p used after a .values) k 0 ≡ elementOf q (a .subindex + k) p
 
 -- an address names element j of a row: it passes the checks, and j is one of its elements from its sub-index on
 pub record Names (a : Address) (q : Row) (j : ℕ) : Type 0 where

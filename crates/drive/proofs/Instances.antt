@@ -2,12 +2,14 @@
 use mathlib.Core.Path.{_≡_, refl, sym, ap, _∙_}
 use mathlib.Core.Bool.{false, true≢false}
 use mathlib.Core.Logic.{_⊎_, inl, inr}
+use lib.ListN.{length}
 use Rattle.drive.specs.declared.states.State.the-variants.{S1, S3, S4, S51}
 use Rattle.drive.specs.declared.Drive.{Drive}
 use Rattle.drive.specs.declared.Input.{Input}
 use Rattle.drive.specs.Speed.{still}
-use Rattle.drive.specs.Faults.{noFaults}
+use Rattle.drive.specs.Faults.{noFaults, putOf}
 use Rattle.drive.specs.Cycle.{bit, wordOf, wordUsed, afterAck, afterCode, cycleOf}
+use Rattle.drive.specs.Worked.{workedCycles}
 use Rattle.drive.proofs.Laws.{fault-means-s1, entry-into-s4, s4-needs-b1}
 
 -- EntryIntoS4: no entry from a state other than S3, S4 and S51
@@ -34,3 +36,18 @@ failing = record { standstill = false; warning = false; stw1 = 0x047F; nsoll = s
 inhibited : cycleOf running failing .drive .state ≡ S1
 unfolding running failing cycleOf wordOf wordUsed afterAck afterCode
 inhibited = fault-means-s1 running failing refl
+
+-- and one that came before stands in the buffer
+faulty : Drive
+faulty = record { state = S4; word = 0x047F; setpoint = still; effective = still; status = 0x0237; actual = still; faults = putOf noFaults 0 5 }
+
+going : Input
+going = record { standstill = false; warning = false; stw1 = 0x047F; nsoll = still; nist = still; fault = 0; reference = 1500; window = 164; threshold = 16384 }
+
+still-inhibited : cycleOf faulty going .drive .state ≡ S1
+unfolding faulty going cycleOf wordOf wordUsed afterAck afterCode
+still-inhibited = fault-means-s1 faulty going refl
+
+-- FourCycles: four they are
+four : length workedCycles ≡ 4
+four = refl

@@ -1,6 +1,6 @@
 -- What is known of bytes by whether they are a record.
 use mathlib.Core.Path.{_≡_, refl, sym, _∙_, ap}
-use mathlib.Core.Bool.{Bool, true, false, _&&_, and-eq-true-iff}
+use mathlib.Core.Bool.{Bool, true, false, _&&_, _||_, true≢false, and-eq-true-iff}
 use mathlib.Core.List.{List, [], _∷_, _++_}
 use Prim.Native.Nat.{ℕ, zero, suc, _+_, _≤_, _<_}
 use native.Mathlib.Omega.{arith}
@@ -15,7 +15,7 @@ use Rattle.codes.proofs.Put.{put-fits}
 use Rattle.drive.specs.Faults.{zeros}
 use Rattle.station.specs.Calls.{kinds}
 use Rattle.station.specs.Isolation.{after}
-use Rattle.journal.specs.Line.{cycleRecord, frameRecord, cycleCall, frameLength, frameCall, isCycle, isFrame, isRecord, written, badLine, recordLine, recordAfter}
+use Rattle.journal.specs.Line.{recordLength, cycleRecord, frameRecord, cycleCall, frameLength, frameCall, isCycle, isFrame, isRecord, written, badLine, recordLine, recordAfter}
 
 -- bytes tested for 0, from a place on
 pub clear-past : (s : List ℕ) (i : ℕ) → length s ≤ i → zeros (drop i s) ≡ true
@@ -40,6 +40,21 @@ frame-lengths r h =
     let whole = and-eq-true-iff (eqb (length r) frameRecord) (eqb (getD r 0 0) 2 && (fits && clear)) .0 h in
     let kind = and-eq-true-iff (eqb (getD r 0 0) 2) (fits && clear) .0 (whole .1) in
     (eqb-true _ _ (whole .0), leb-true _ _ (and-eq-true-iff fits clear .0 (kind .1) .0))
+
+-- a record is as long as its kind byte says
+pub record-whole : (r : List ℕ) → isRecord r ≡ true → recordLength (getD r 0 0) ≡ length r
+unfolding isRecord
+record-whole r = go (isCycle r) (isFrame r) refl refl
+  where
+    rest : Bool
+    rest = leb (frameLength r) 244 && zeros (drop (3 + frameLength r) r)
+
+    go : (c f : Bool) → isCycle r ≡ c → isFrame r ≡ f → c || f ≡ true → recordLength (getD r 0 0) ≡ length r
+    go true f a b e = ap recordLength (eqb-true (getD r 0 0) 1 (and-eq-true-iff (eqb (length r) cycleRecord) (eqb (getD r 0 0) 1) .0 a .1)) ∙ sym (cycle-length r a)
+    go false true a b e =
+        let x = and-eq-true-iff (eqb (length r) frameRecord) (eqb (getD r 0 0) 2 && rest) .0 b in
+        ap recordLength (eqb-true (getD r 0 0) 2 (and-eq-true-iff (eqb (getD r 0 0) 2) rest .0 (x .1) .0)) ∙ sym (frame-lengths r b .0)
+    go false false a b e = absurd (true≢false (sym e))
 
 -- what a play promises, by what the bytes are
 module _ (r s : List ℕ) where

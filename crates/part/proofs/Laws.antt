@@ -20,10 +20,10 @@ use Rattle.drive.specs.declared.states.State.the-variants.{S1, S2, S3, S4, S51,
 use Rattle.drive.specs.declared.Drive.{Drive}
 use Rattle.drive.specs.declared.Input.{Input}
 use Rattle.drive.specs.Faults.{bufferCodes, properFaults}
-use Rattle.drive.specs.Cycle.{cycleOf}
+use Rattle.drive.specs.Cycle.{cycleOf, freshDrive}
 use Rattle.drive.proofs.Laws.{keeps-length, keeps-proper}
 use Rattle.part.specs.Layout.{stateAt, lengthAt, partSize, waitingLength, responseRoom, waiting, withResponse}
-use Rattle.part.specs.Record.{numberOf, putDrive, driveOf}
+use Rattle.part.specs.Record.{numberOf, stateOf, putDrive, driveOf}
 use Rattle.part.specs.Fresh.{freshPart}
 use Rattle.part.specs.WellFormed.{isState, limitsFit, fixedFit, waitingFits, unusedFit, wellFormed}
 use Rattle.part.proofs.Words.{words-length}
@@ -123,3 +123,8 @@ fresh-length = rows-length rows _ ∙ (put-length (replicate partSize 0) stateAt
 pub fresh-well-formed : (axis : ℕ) → wellFormed axis freshPart ≡ true
 unfolding wellFormed limitsFit fixedFit inside waitingFits unusedFit freshPart putElement elementOf put numberAt offsetOf findOf rows parameterBytes
 fresh-well-formed axis = refl
+
+-- "Each axis starts in S1 with all fault situations empty."
+pub fresh-drive : driveOf freshPart ≡ freshDrive
+unfolding driveOf stateOf freshPart putElement elementOf put numberAt offsetOf findOf rows parameterBytes
+fresh-drive = refl

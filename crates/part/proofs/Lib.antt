@@ -11,3 +11,4 @@ pub mod Kept
 pub mod Held
 pub mod Laws
 pub mod Cycled
+pub mod Instances

@@ -1,7 +1,8 @@
 -- Each law of specs/Laws.antt at work on calls that are written out, at both ends of its bounds: a law that is made weaker fails here.
-use mathlib.Core.Path.{_≡_, refl, _∙_}
+-- What a law concludes is written out too, and of each record that a law asks for one is built.
+use mathlib.Core.Path.{_≡_, refl, ap, _∙_}
 use mathlib.Core.Bool.{true}
-use mathlib.Core.List.{List, [], _∷_, _++_}
+use mathlib.Core.List.{List, [], _∷_, _++_, map}
 use Prim.Native.Nat.{ℕ, _≤_}
 use native.Mathlib.Omega.{arith}
 use lib.Dec.{eqb, lit≤, lit<}
@@ -9,28 +10,32 @@ use lib.IntN.{pos, negsuc}
 use lib.ListN.{length, drop}
 use borrow.Author.Tests.{eq-eqb, le-ltb}
 use Rattle.codes.specs.Code.{got, AllOf, readable}
-use Rattle.codes.specs.Number.{numberAt}
-use Rattle.blocks.specs.Block.{blockLimit}
-use Rattle.blocks.specs.Request.{Request, request}
+use Rattle.codes.specs.Number.{numberAt, put}
+use Rattle.blocks.specs.Block.{blockLimit, formatSize, valueSize, changeBlockFits, valuesOf, block}
+use Rattle.blocks.specs.Request.{Request, address, requestBlocks, request}
 use Rattle.blocks.specs.Response.{response}
-use Rattle.blocks.specs.Page.{RequestFits, requestBytes, responseBytes}
-use Rattle.part.specs.Layout.{partSize, waiting}
+use Rattle.blocks.specs.Page.{RequestFits, requestBytes, ResponseFits, responseBytes}
+use Rattle.catalogue.specs.Table.{rows, parameterBytes}
+use Rattle.catalogue.specs.Element.{putElement}
+use Rattle.part.specs.Layout.{partSize, waitingLength, waiting}
 use Rattle.part.specs.Fresh.{freshPart}
+use Rattle.part.specs.WellFormed.{wellFormed}
 use Rattle.access.specs.Work.{worked, outcomeOf}
 use Rattle.access.proofs.Answers.{answer-short}
-use Rattle.station.specs.Parts.{stationSize, partOf, freshStation}
+use Rattle.station.specs.Parts.{farms, stationSize, partOf, freshStation}
 use Rattle.station.specs.Frame.{frameRefusal, frameReply}
 use Rattle.station.specs.Cycle.{Sent}
-use Rattle.station.specs.Runs.{SameSeen, runAnswers}
+use Rattle.station.specs.Runs.{callsBy, answersTo, SameSeen, runAnswers, runEnd}
 use Rattle.station.specs.Isolation.{Isolated, answer, after, machine}
 use Rattle.station.specs.Calls.{Call, cycle, frame, toFrame, owner, kinds}
-use Rattle.station.specs.Worked.{marksFrame, fetchFrame}
-use Rattle.station.specs.Laws.{numberIn, Refuses, WellFormedStation, SentFits, AtRest, Exchanged}
+use Rattle.station.specs.Worked.{marksFrame, fetchFrame, workedCalls, endedPart}
+use Rattle.station.specs.Laws.{numberIn, Refuses, WellFormedStation, SentFits, AtRest, replied, Exchanged}
 use Rattle.station.proofs.Sizes.{isolated-station, keeps-size, keeps-others}
 use Rattle.station.proofs.Outcome.{block-numbered}
 use Rattle.station.proofs.Refusals.{numbered-by-table, is-refused, empty-reply, reply-stands, foreign-axis, unreadable-block}
 use Rattle.station.proofs.Stays.{fresh-parts, never-ill-formed}
 use Rattle.station.proofs.Sends.{waits-as-ruled, sends-waiting}
+use Rattle.station.proofs.Worked.{worked-by-hand}
 use Rattle.station.proofs.Exchange.{responds-as-ruled}
 
 -- the numbers at both ends of a cycle's words
@@ -49,6 +54,15 @@ first-alone = isolated-station 1 (lit≤ tt) (lit≤ tt)
 last-alone : SameSeen (machine kinds) (λ s. length s ≡ stationSize) (λ c. eqb (owner c) 16) (partOf 16)
 unfolding Isolated
 last-alone = isolated-station 16 (lit≤ tt) (lit≤ tt)
+
+-- and written out: a neighbour's frame before it makes no odds to farm 1, on two stations that agree on its part
+undisturbed :
+    (s t : List ℕ) → length s ≡ stationSize → length t ≡ stationSize → partOf 1 s ≡ partOf 1 t → (f m g h : List ℕ)
+    → (answer kinds (frame 1 f m) (after kinds (frame 2 g h) s) ∷ [] ≡ answer kinds (frame 1 f m) t ∷ [])
+    × (partOf 1 (after kinds (frame 1 f m) (after kinds (frame 2 g h) s)) ≡ partOf 1 (after kinds (frame 1 f m) t))
+unfolding Isolated SameSeen callsBy answersTo runAnswers runEnd
+undisturbed s t size size-t same f m g h =
+    isolated-station 1 (lit≤ tt) (lit≤ tt) s t size size-t same (frame 2 g h ∷ frame 1 f m ∷ []) (frame 1 f m ∷ []) refl
 
 -- KeepsSize: memory without a byte
 no-memory : (c : Call) → length (after kinds c []) ≡ 0
@@ -76,6 +90,33 @@ module _ (s : List ℕ) (size : length s ≡ stationSize) where
   never-2 : (k : ℕ) (f m : List ℕ) → AllOf (λ a. numberIn a ≡ 2 → ⊥) (runAnswers (machine kinds) (cycle 16 largest ∷ frame k f m ∷ cycle k largest ∷ []) (freshStation s))
   never-2 k f m = never-ill-formed (cycle 16 largest ∷ frame k f m ∷ cycle k largest ∷ []) s (fit, (tt, (fit, tt))) size .never2
 
+  formed-end : (k : ℕ) (f m : List ℕ) → wellFormed 16 (partOf 16 (runEnd (machine kinds) (frame k f m ∷ []) (freshStation s))) ≡ true
+  formed-end k f m = never-ill-formed (frame k f m ∷ []) s (tt, tt) size .ends .parts 16 (lit≤ tt) (lit≤ tt)
+
+  -- AtRest: every farm of a fresh station
+  rests : (k : ℕ) → 1 ≤ k → k ≤ farms → AtRest k (freshStation s)
+  unfolding runEnd freshPart rows parameterBytes putElement numberAt put
+  rests k low high =
+      record {
+        low = low;
+        high = high;
+        size = never-ill-formed [] s tt size .ends .size;
+        formed = never-ill-formed [] s tt size .ends .parts k low high;
+        idle = ap waitingLength (fresh-parts s size k low high);
+      }
+
+  -- WorkedByHand: nine calls, their answers, and the parts of farms 1, 2 and 16
+  abbrev calls : List Call
+  calls = map (λ w. w .call) workedCalls
+
+  abbrev end : List ℕ
+  end = runEnd (machine kinds) calls (freshStation s)
+
+  by-hand :
+      (length calls ≡ 9) × (runAnswers (machine kinds) calls (freshStation s) ≡ map (λ w. w .answer) workedCalls) × (length end ≡ stationSize)
+      × (partOf 1 end ≡ endedPart) × (partOf 2 end ≡ freshPart) × (partOf 16 end ≡ freshPart)
+  by-hand = let w = worked-by-hand s size in (refl, w .answered, w .size, w .first, w .others 2 (lit≤ tt) (lit≤ tt), w .others 16 (lit≤ tt) (lit≤ tt))
+
 -- Refused and NumberedByTable: an axis that there is not
 nobody : (i : Sent) (s : List ℕ) → Refuses (cycle 17 i) s
 nobody i s = is-refused (cycle 17 i) s (λ e. let n = numbered-by-table (cycle 17 i) s in omega arith)
@@ -91,19 +132,42 @@ no-frame m s w room =
     ∙ rw (eq-eqb (length s) stationSize (w .size), w .parts 1 (lit≤ tt) (lit≤ tt), le-ltb (length m) 244 room))
     (lit≤ tt) (lit≤ tt)
 
--- ForeignAxis, UnreadableBlock and BlockNumbered: farm 2 with the frame of farm 1, and a frame without a block
+-- ForeignAxis: farm 2 with the frame of farm 1, and farm 1 with a block of axis 2; UnreadableBlock: none, and one byte of it
 module _ (m s : List ℕ) where
   denied : Refuses (frame 2 marksFrame m) s
   unfolding numberAt
   denied = foreign-axis 2 marksFrame m s refl (λ e. omega arith)
 
+  denied-too : Refuses (frame 1 (0x5F ∷ 0 ∷ 0x2F ∷ 4 ∷ 7 ∷ 1 ∷ 2 ∷ 0 ∷ []) m) s
+  unfolding numberAt
+  denied-too = foreign-axis 1 (0x5F ∷ 0 ∷ 0x2F ∷ 4 ∷ 7 ∷ 1 ∷ 2 ∷ 0 ∷ []) m s refl (λ e. omega arith)
+
   blockless : (k : ℕ) → Refuses (frame k (0x5F ∷ 0 ∷ 0x2F ∷ 0 ∷ []) m) s
   unfolding readable request
   blockless k = unreadable-block k (0x5F ∷ 0 ∷ 0x2F ∷ 0 ∷ []) m s refl refl
 
+  one-byte : (k : ℕ) → Refuses (frame k (0x5F ∷ 0 ∷ 0x2F ∷ 1 ∷ 7 ∷ []) m) s
+  unfolding readable request
+  one-byte k = unreadable-block k (0x5F ∷ 0 ∷ 0x2F ∷ 1 ∷ 7 ∷ []) m s refl refl
+
+  -- what a refusal is
+  denied-kept : (after kinds (frame 2 marksFrame m) s ≡ s) × (numberIn (answer kinds (frame 2 marksFrame m) s) ≡ 0 → ⊥)
+  denied-kept = (denied .kept, denied .number)
+
+-- BlockNumbered: both numbers
 ten : (k : ℕ) (p : List ℕ) → outcomeOf k [] p .number ≡ 10
 unfolding readable request
 ten k p = block-numbered k [] p
+
+eleven : (p : List ℕ) → outcomeOf 2 (drop 4 marksFrame) p .number ≡ 11
+unfolding readable request numberAt formatSize valueSize changeBlockFits valuesOf block address requestBlocks
+eleven p = block-numbered 2 (drop 4 marksFrame) p
+
+-- NumberedByTable: flags 4, on any well-formed station
+flagged : (s : List ℕ) → WellFormedStation s → numberIn (answer kinds (cycle 1 (record { flags = 4; stw1 = 0; nsoll = pos 0; nist = pos 0; fault = 0 })) s) ≡ 12
+flagged s w =
+    numbered-by-table (cycle 1 (record { flags = 4; stw1 = 0; nsoll = pos 0; nist = pos 0; fault = 0 })) s
+    ∙ rw (eq-eqb (length s) stationSize (w .size), w .parts 1 (lit≤ tt) (lit≤ tt))
 
 -- ReplyStands: the four bytes of a denial, and nothing past them
 denial : (m p : List ℕ) → frameRefusal 2 marksFrame (length m) p ≡ 11 → frameReply 2 marksFrame m p ≡ (0xDF ∷ 0x80 ∷ 0xB6 ∷ 0 ∷ []) ++ drop 4 m
@@ -114,8 +178,10 @@ waits : (k : ℕ) (s p : List ℕ) (r : Request) → length p ≡ partSize → r
     → readable blockLimit response (waiting (outcomeOf k s p .part)) ≡ true
 waits k s p r size reads back mine = waits-as-ruled k s p r size reads back mine .1
 
-sent : (k : ℕ) (m p : List ℕ) → frameRefusal k fetchFrame (length m) p ≡ 0 → readable blockLimit response (waiting p) ≡ true
-sent k m p e = sends-waiting k fetchFrame m p e refl .1
+sent :
+    (k : ℕ) (m p : List ℕ) → frameRefusal k fetchFrame (length m) p ≡ 0
+    → (frameReply k fetchFrame m p ≡ put m 0 (0x5E ∷ 0 ∷ 0x2F ∷ waitingLength p ∷ waiting p)) × (readable blockLimit response (waiting p) ≡ true)
+sent k m p e = sends-waiting k fetchFrame m p e refl
 
 -- RespondsAsRuled: farm 1 and farm 16, with as many bytes as wait and with the most, nothing between and a call of each kind
 module _ (r : Request) (fits : RequestFits r) (short : length (requestBytes r) ≤ 240) (s m w : List ℕ) (room : 244 ≤ length m) (wide : 244 ≤ length w) where
@@ -126,3 +192,23 @@ module _ (r : Request) (fits : RequestFits r) (short : length (requestBytes r) �
   most f g rest mine =
       responds-as-ruled 16 r s m (cycle 16 largest ∷ frame 15 f g ∷ []) 240 w rest fits short mine room (fit, ((λ e. omega arith), tt))
       (answer-short r (partOf 16 s) fits) (lit≤ tt) wide
+
+  -- and written out: what is acknowledged, what is fetched, and that nothing waits then
+  module _ (rest : AtRest 1 s) (mine : r .axis ≡ 1) where
+    abbrev given : List ℕ
+    given = responseBytes (worked r (partOf 1 s) .response)
+
+    abbrev wrote : List ℕ
+    wrote = after kinds (frame 1 (0x5F ∷ 0 ∷ 0x2F ∷ length (requestBytes r) ∷ requestBytes r) m) s
+
+    exchanged :
+        (answer kinds (frame 1 (0x5F ∷ 0 ∷ 0x2F ∷ length (requestBytes r) ∷ requestBytes r) m) s
+        ≡ toFrame (record { length = 4; stored = worked r (partOf 1 s) .stored; number = 0 }) ((0x5F ∷ 0 ∷ 0x2F ∷ length (requestBytes r) ∷ []) ++ drop 4 m))
+        × (answer kinds (frame 1 fetchFrame w) wrote ≡ replied (0x5E ∷ 0 ∷ 0x2F ∷ length given ∷ given) 0 w)
+        × (waitingLength (partOf 1 (after kinds (frame 1 fetchFrame w) wrote)) ≡ 0)
+        × ResponseFits (worked r (partOf 1 s) .response)
+        × (length given ≤ 240)
+    unfolding runEnd
+    exchanged =
+        let x = responds-as-ruled 1 r s m [] 240 w rest fits short mine room tt (answer-short r (partOf 1 s) fits) (lit≤ tt) wide in
+        (x .acknowledged, x .answered, x .idle, x .fits, x .short)
