@@ -1,25 +1,33 @@
 -- The laws of specs/Laws.antt that no other crate uses yet, at work: one that is made weaker fails here.
 use mathlib.Core.Path.{_≡_, refl, sym, ap, _∙_}
-use mathlib.Core.Bool.{false, true≢false}
+use mathlib.Core.Bool.{true, false, true≢false}
 use mathlib.Core.Logic.{_⊎_, inl, inr}
 use lib.ListN.{length}
 use Rattle.drive.specs.declared.states.State.the-variants.{S1, S3, S4, S51}
+use Rattle.drive.specs.declared.faults.Faults.{Faults}
 use Rattle.drive.specs.declared.Drive.{Drive}
 use Rattle.drive.specs.declared.Input.{Input}
 use Rattle.drive.specs.Speed.{still}
-use Rattle.drive.specs.Faults.{noFaults, putOf}
-use Rattle.drive.specs.Cycle.{bit, wordOf, wordUsed, afterAck, afterCode, cycleOf}
+use Rattle.drive.specs.Faults.{noFaults, isEmptyOf, bumpOf, putOf}
+use Rattle.drive.specs.Cycle.{bit, wordOf, wordUsed, acknowledges, afterAck, afterCode, isS4, cycleOf}
 use Rattle.drive.specs.Worked.{workedCycles}
-use Rattle.drive.proofs.Laws.{fault-means-s1, entry-into-s4, s4-needs-b1}
+use Rattle.drive.proofs.Laws.{fault-means-s1, entry-into-s4, stay-in-s4, s4-needs-b1, acknowledged, not-acknowledged}
 
--- EntryIntoS4: no entry from a state other than S3, S4 and S51
-module _ (d : Drive) (i : Input) (differs : (d .state ≡ S4 → ⊥) × ((d .state ≡ S3 → ⊥) × (d .state ≡ S51 → ⊥))) where
-  no-entry : cycleOf d i .drive .state ≡ S4 → ⊥
-  no-entry e = go (entry-into-s4 d i e (differs .0))
+-- EntryIntoS4: no entry from a state other than S3 and S51, S4 itself among them, nor one that ends elsewhere
+module _ (d : Drive) (i : Input) (entered : cycleOf d i .output .entered ≡ true) where
+  no-entry : (d .state ≡ S3 → ⊥) → (d .state ≡ S51 → ⊥) → ⊥
+  no-entry not-s3 not-s51 = go (entry-into-s4 d i entered .1)
     where
       go : (d .state ≡ S3) ⊎ (d .state ≡ S51) → ⊥
-      go (inl f) = differs .1 .0 f
-      go (inr f) = differs .1 .1 f
+      go (inl f) = not-s3 f
+      go (inr f) = not-s51 f
+
+  entry-ends : cycleOf d i .drive .state ≡ S4
+  entry-ends = entry-into-s4 d i entered .0
+
+-- StayInS4: from S3 to S4 is an entry
+switched-on : (d : Drive) (i : Input) → d .state ≡ S3 → cycleOf d i .drive .state ≡ S4 → cycleOf d i .output .entered ≡ false → ⊥
+switched-on d i before ends not-entered = true≢false (sym (ap isS4 (stay-in-s4 d i not-entered ends)) ∙ ap isS4 before)
 
 -- S4NeedsB1: 047D has b1 = 0
 stopped : (d : Drive) (i : Input) → i .stw1 ≡ 0x047D → cycleOf d i .drive .state ≡ S4 → ⊥
@@ -34,7 +42,7 @@ failing : Input
 failing = record { standstill = false; warning = false; stw1 = 0x047F; nsoll = still; nist = still; fault = 5; reference = 1500; window = 164; threshold = 16384 }
 
 inhibited : cycleOf running failing .drive .state ≡ S1
-unfolding running failing cycleOf wordOf wordUsed afterAck afterCode
+unfolding running failing cycleOf wordOf wordUsed acknowledges afterAck afterCode
 inhibited = fault-means-s1 running failing refl
 
 -- and one that came before stands in the buffer
@@ -45,8 +53,23 @@ going : Input
 going = record { standstill = false; warning = false; stw1 = 0x047F; nsoll = still; nist = still; fault = 0; reference = 1500; window = 164; threshold = 16384 }
 
 still-inhibited : cycleOf faulty going .drive .state ≡ S1
-unfolding faulty going cycleOf wordOf wordUsed afterAck afterCode
+unfolding faulty going cycleOf wordOf wordUsed acknowledges afterAck afterCode
 still-inhibited = fault-means-s1 faulty going refl
+
+-- Acknowledged: an empty situation 0 is not acknowledged, nor does a held bit 7 acknowledge
+nothing-there : (d : Drive) (i : Input) → cycleOf d i .output .acknowledged ≡ true → isEmptyOf (d .faults) ≡ true → ⊥
+nothing-there d i e empty = true≢false (sym empty ∙ acknowledged d i e .some)
+
+held : (d : Drive) (i : Input) → cycleOf d i .output .acknowledged ≡ true → bit 7 (d .word) ≡ true → ⊥
+held d i e bit-7 = true≢false (sym bit-7 ∙ acknowledged d i e .rising)
+
+-- the counter goes on by 1 where a cycle acknowledged, and stays where it did not and no code came
+counter-goes-on : (d : Drive) (i : Input) → cycleOf d i .output .acknowledged ≡ true → cycleOf d i .drive .faults .counter ≡ bumpOf (d .faults .counter)
+counter-goes-on d i e = ap (λ (f : Faults). f .counter) (acknowledged d i e .moved)
+
+counter-stays : (d : Drive) (i : Input) → cycleOf d i .output .acknowledged ≡ false → i .fault ≡ 0 → cycleOf d i .drive .faults ≡ d .faults
+unfolding afterCode
+counter-stays d i e none = not-acknowledged d i e ∙ ap (λ x. afterCode x (d .faults)) none
 
 -- FourCycles: four they are
 four : length workedCycles ≡ 4

@@ -3,7 +3,7 @@ use Prim.Native.Nat.{ℕ, zero, suc, _+_, _-_, _*_, _≤_}
 use native.Mathlib.Nat.{zero-add, suc-add}
 use native.Mathlib.Omega.{arith}
 use mathlib.Core.Path.{_≡_, refl, sym, ap, _∙_}
-use mathlib.Core.Bool.{true, false, not, and-eq-true-iff}
+use mathlib.Core.Bool.{Bool, true, false, not, and-eq-true-iff}
 use mathlib.Core.List.{List, [], _∷_}
 use mathlib.Mathlib.Data.Bool.Basic.{or-eq-false-eq-eq-false-and-eq-false as or-eq-false-iff}
 use lib.Dec.{eqb}
@@ -11,21 +11,21 @@ use lib.ListN.{length, take, drop, set, length-set, length-take}
 use lib.Seq.{take-nil, take-take, take-set-lt, drop-set-lt, length-take-le}
 use borrow.Author.Tests.{ltb-true, ltb-false, eqb-false, ne-eqb, not-true}
 use borrow.Table.Steps.{cases}
-use Rattle.drive.specs.declared.word.Word.{Word}
 use Rattle.drive.specs.declared.faults.Faults.{Faults}
 use Rattle.drive.specs.declared.Drive.{Drive}
 use Rattle.drive.specs.declared.Input.{Input}
 use Rattle.drive.specs.Faults.{situations, situationCodes, bufferCodes, acknowledgedOf, firstIn, codePlace, holds, endOf, hasRoom, putOf, isIn, zeros, proper, allProper, properFaults}
-use Rattle.drive.specs.Cycle.{acknowledges, afterAck, afterCode, cycleOf}
+use Rattle.drive.specs.Cycle.{afterAck, afterCode, cycleOf}
 use Rattle.drive.specs.Laws.{KeepsLength, KeepsProper}
 
 -- what holds of a buffer, and still does once a situation is acknowledged or a code is put, holds after a cycle
 module _ (P : Faults → Type 0)
     (acked : (f : Faults) → P f → P (acknowledgedOf f))
     (put : (x : ℕ) (f : Faults) → eqb x 0 ≡ false → holds x f ≡ false → hasRoom f ≡ true → P f → P (putOf f (endOf f) x)) where
-  after-ack : (b last : Word) (x : ℕ) (f : Faults) → P f → P (afterAck b last x f)
+  after-ack : (acknowledged : Bool) (f : Faults) → P f → P (afterAck acknowledged f)
   unfolding afterAck
-  after-ack b last x f p = cases (acknowledges b last x f) (λ e. rw e (acked f p)) (λ e. rw e p)
+  after-ack true f p = acked f p
+  after-ack false f p = p
 
   after-code : (x : ℕ) (f : Faults) → P f → P (afterCode x f)
   unfolding afterCode
@@ -39,7 +39,7 @@ module _ (P : Faults → Type 0)
 
   after-cycle : (d : Drive) (i : Input) → P (d .faults) → P (cycleOf d i .drive .faults)
   unfolding cycleOf
-  after-cycle d i p = after-code (i .fault) _ (after-ack _ _ (i .fault) (d .faults) p)
+  after-cycle d i p = after-code (i .fault) _ (after-ack _ (d .faults) p)
 
 pub keeps-length : KeepsLength
 keeps-length =

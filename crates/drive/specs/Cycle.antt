@@ -1,4 +1,5 @@
--- Document 01, "Control cycle": steps 1 to 7 in its order and words, then the whole cycle, then a fresh axis.
+-- Document 01, "Control cycle": steps 1 to 7 in its order and words, then the whole cycle, then a fresh axis. Beside its answer a
+-- cycle tells what document 02, R-1, counts: whether step 2 acknowledged, and whether S4 was entered.
 -- A step speaks of b, the bits of the word used, and of t, standstill, as 01 does.
 use Prim.Native.Nat.{ℕ, _+_, _*_, _/_, _%_, _^_}
 use mathlib.Core.Bool.{Bool, true, false, cond, not, _&&_, _||_}
@@ -41,11 +42,11 @@ unfoldable pub setpointUsed : ℕ → N2 → N2 → N2
 setpointUsed stw1 received last = cond (wordOf stw1 .b10) received last
 
 -- Step 2. "Acknowledge: bit 7 is 1 now and 0 in the last accepted word, the fault code is 0 and situation 0 is not empty."
-abbrev pub acknowledges : Word → Word → ℕ → Faults → Bool
+unfoldable pub acknowledges : Word → Word → ℕ → Faults → Bool
 acknowledges b last code f = b .b7 && (not (last .b7) && (eqb code 0 && not (isEmptyOf f)))
 
-unfoldable pub afterAck : Word → Word → ℕ → Faults → Faults
-afterAck b last code f = cond (acknowledges b last code f) (acknowledgedOf f) f
+unfoldable pub afterAck : Bool → Faults → Faults
+afterAck acknowledged f = cond acknowledged (acknowledgedOf f) f
 
 -- Step 3. "A fault code other than 0 that situation 0 lacks is put at its end if there is room, and the counter adds 1.
 -- A ninth code is dropped."
@@ -166,6 +167,10 @@ statusOf s faulted b warning near fast =
     + 2 ^ 9  -- bit 9: 1
     + flagOf fast (2 ^ 10)  -- bit 10
 
+-- Document 02, R-1, "entries into S4": the axis was in another state before the cycle, and is in S4 after it.
+unfoldable pub entersS4 : State → State → Bool
+entersS4 before s = not (isS4 before) && isS4 s
+
 -- The whole cycle. Step 7: "The word and setpoint used become the last accepted ones. Effective setpoint, status and actual
 -- speed are kept."
 unfoldable pub cycleOf : Drive → Input → CycleEnd
@@ -175,7 +180,8 @@ cycleOf d i =
     let setpoint = setpointUsed (i .stw1) (i .nsoll) (d .setpoint) in
     let b = wordOf w in
     -- 2
-    let left = afterAck b (wordOf (d .word)) (i .fault) (d .faults) in
+    let acknowledged = acknowledges b (wordOf (d .word)) (i .fault) (d .faults) in
+    let left = afterAck acknowledged (d .faults) in
     -- 3
     let f = afterCode (i .fault) left in
     -- 4
@@ -188,7 +194,14 @@ cycleOf d i =
     -- 7
     record {
       drive = record { state = s; word = w; setpoint = setpoint; effective = e; status = z; actual = i .nist; faults = f };
-      output = record { state = s; status = z; speed = scaleOf e (i .reference) };
+      output =
+          record {
+            state = s;
+            status = z;
+            speed = scaleOf e (i .reference);
+            acknowledged = acknowledged;
+            entered = entersS4 (d .state) s;
+          };
     }
 
 -- "Each axis starts in S1 with all fault situations empty"; the fresh figures of steps 1 and 5 and of PNU 944, 947 and 10100 to 10103

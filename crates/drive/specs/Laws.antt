@@ -1,14 +1,15 @@
--- What callers may cite of every cycle in place of its text: from document 01, "Control cycle", steps 2 to 4, and the traps.
+-- What callers may cite of every cycle in place of its text: from document 01, "Control cycle", steps 2 to 4, and the traps; from document
+-- 02, R-1, what an acknowledge and an entry into S4 are.
 -- Each is a statement here and a proof in proofs/.
 use mathlib.Core.Path.{_≡_}
-use mathlib.Core.Bool.{true, not}
+use mathlib.Core.Bool.{true, false, not}
 use mathlib.Core.Logic.{_⊎_}
 use lib.ListN.{length}
 use Rattle.drive.specs.declared.states.State.the-variants.{S1, S3, S4, S51}
 use Rattle.drive.specs.declared.Drive.{Drive}
 use Rattle.drive.specs.declared.Input.{Input}
-use Rattle.drive.specs.Faults.{bufferCodes, isEmptyOf, properFaults}
-use Rattle.drive.specs.Cycle.{bit, wordUsed, cycleOf}
+use Rattle.drive.specs.Faults.{bufferCodes, isEmptyOf, acknowledgedOf, properFaults}
+use Rattle.drive.specs.Cycle.{bit, wordUsed, afterCode, cycleOf}
 
 -- the fault buffer keeps its length
 abbrev pub KeepsLength : Type 0
@@ -22,10 +23,28 @@ KeepsProper = (d : Drive) (i : Input) → properFaults (d .faults) ≡ true → 
 abbrev pub FaultMeansS1 : Type 0
 FaultMeansS1 = (d : Drive) (i : Input) → not (isEmptyOf (cycleOf d i .drive .faults)) ≡ true → cycleOf d i .drive .state ≡ S1
 
--- an entry into S4 comes from S3 or S51
+-- an entry into S4 ends there and comes from S3 or S51; a cycle that ends in S4 without one began there
 abbrev pub EntryIntoS4 : Type 0
-EntryIntoS4 = (d : Drive) (i : Input) → cycleOf d i .drive .state ≡ S4 → (d .state ≡ S4 → ⊥) → (d .state ≡ S3) ⊎ (d .state ≡ S51)
+EntryIntoS4 =
+    (d : Drive) (i : Input) → cycleOf d i .output .entered ≡ true
+    → (cycleOf d i .drive .state ≡ S4) × ((d .state ≡ S3) ⊎ (d .state ≡ S51))
+
+abbrev pub StayInS4 : Type 0
+StayInS4 = (d : Drive) (i : Input) → cycleOf d i .output .entered ≡ false → cycleOf d i .drive .state ≡ S4 → d .state ≡ S4
 
 -- no cycle ends in S4 whose used word has b1 = 0
 abbrev pub S4NeedsB1 : Type 0
 S4NeedsB1 = (d : Drive) (i : Input) → cycleOf d i .drive .state ≡ S4 → bit 1 (wordUsed (i .stw1) (d .word)) ≡ true
+
+-- where a cycle acknowledged, situation 0 was not empty, bit 7 was not held, and the fault buffer is moved down, with no new code in it
+pub record Acknowledges (d : Drive) (i : Input) : Type 0 where
+  pub some : isEmptyOf (d .faults) ≡ false
+  pub rising : bit 7 (d .word) ≡ false
+  pub moved : cycleOf d i .drive .faults ≡ acknowledgedOf (d .faults)
+
+abbrev pub Acknowledged : Type 0
+Acknowledged = (d : Drive) (i : Input) → cycleOf d i .output .acknowledged ≡ true → Acknowledges d i
+
+-- where it did not, step 3 alone has changed the buffer
+abbrev pub NotAcknowledged : Type 0
+NotAcknowledged = (d : Drive) (i : Input) → cycleOf d i .output .acknowledged ≡ false → cycleOf d i .drive .faults ≡ afterCode (i .fault) (d .faults)

@@ -1,7 +1,7 @@
--- Document 01, "Journal program": the four cycles on axis 1 of a fresh station, all unnamed fields 0, and what each outputsOf.
+-- Document 01, "Journal program": the four cycles on axis 1 of a fresh station, all unnamed fields 0, and what each answers.
 use Prim.Native.Nat.{ℕ}
 use mathlib.Core.Path.{_≡_}
-use mathlib.Core.Bool.{false}
+use mathlib.Core.Bool.{Bool, true, false}
 use mathlib.Core.List.{List, [], _∷_, map}
 use lib.IntN.{ℤ, pos}
 use Rattle.drive.specs.declared.states.State.{State}
@@ -12,20 +12,21 @@ use Rattle.drive.specs.declared.Output.{Output}
 use Rattle.drive.specs.Speed.{still}
 use Rattle.drive.specs.Cycle.{cycleOf, freshDrive}
 
--- a cycle's word and setpoint, and the state, ZSW1 and rpm of its line
+-- a cycle's word and setpoint, the state, ZSW1 and rpm of its line, and whether it entered S4; none acknowledges
 pub record WorkedCycle : Type 0 where
   pub stw1 : ℕ
   pub nsoll : ℕ
   pub state : State
   pub status : ℕ
   pub rpm : ℤ
+  pub entered : Bool
 
 abbrev pub workedCycles : List WorkedCycle
 workedCycles =
-    record { stw1 = 0x047E; nsoll = 0; state = S2; status = 0x0331; rpm = pos 0 }
-    ∷ record { stw1 = 0x047F; nsoll = 0; state = S3; status = 0x0333; rpm = pos 0 }
-    ∷ record { stw1 = 0x047F; nsoll = 0x2000; state = S4; status = 0x0237; rpm = pos 750 }
-    ∷ record { stw1 = 0x047D; nsoll = 0; state = S1; status = 0x0360; rpm = pos 0 }
+    record { stw1 = 0x047E; nsoll = 0; state = S2; status = 0x0331; rpm = pos 0; entered = false }
+    ∷ record { stw1 = 0x047F; nsoll = 0; state = S3; status = 0x0333; rpm = pos 0; entered = false }
+    ∷ record { stw1 = 0x047F; nsoll = 0x2000; state = S4; status = 0x0237; rpm = pos 750; entered = true }
+    ∷ record { stw1 = 0x047D; nsoll = 0; state = S1; status = 0x0360; rpm = pos 0; entered = false }
     ∷ []
 
 -- what the cycle is given, with PNU 10111, 30002 and 30003 fresh
@@ -43,9 +44,9 @@ input x =
       threshold = 16384;
     }
 
--- what its line says
+-- what its line says, and what it did
 abbrev pub outputOf : WorkedCycle → Output
-outputOf x = record { state = x .state; status = x .status; speed = record { 0 = x .rpm } }
+outputOf x = record { state = x .state; status = x .status; speed = record { 0 = x .rpm }; acknowledged = false; entered = x .entered }
 
 -- the outputs of cycles one after the other
 abbrev pub outputsOf : Drive → List WorkedCycle → List Output

@@ -2,7 +2,7 @@
 ghost use mathlib.Core.Path.{_≡_};
 ghost use Prim.Native.Nat.{_<_};
 ghost use Rattle.drive.specs.Faults.{situationCodes, noFaults, isEmptyOf, bumpOf, shiftedOf, acknowledgedOf, codePlace, putOf};
-ghost use Rattle.drive.specs.Cycle.{afterAck, afterCode};
+ghost use Rattle.drive.specs.Cycle.{acknowledges, afterAck, afterCode};
 use super::word::Word;
 
 // How many situations the buffer holds.
@@ -92,21 +92,27 @@ fn put(f: Faults, at: usize, x: u16) -> Faults
 }
 
 // Step 2: only a rising bit 7 acknowledges.
-pub(crate) fn after_ack(b: Word, last: Word, code: u16, f: Faults) -> Faults
-    ensures { λ r. ⌜ r ≡ afterAck b last code f ⌝ }
+pub(crate) fn acknowledges(b: Word, last: Word, code: u16, f: Faults) -> bool
+    ensures { λ r. ⌜ r ≡ acknowledges b last code f ⌝ }
 {
     let none = code == 0;
     let empty = is_empty(f);
     if b.b7 {
         if last.b7 {
-            return f;
+            return false;
         }
         if none {
-            if empty {
-                return f;
-            }
-            return acknowledged(f);
+            return !empty;
         }
+    }
+    false
+}
+
+pub(crate) fn after_ack(acknowledges: bool, f: Faults) -> Faults
+    ensures { λ r. ⌜ r ≡ afterAck acknowledges f ⌝ }
+{
+    if acknowledges {
+        return acknowledged(f);
     }
     f
 }

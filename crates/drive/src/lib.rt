@@ -39,10 +39,13 @@ pub struct Input {
     pub threshold: u16, // PNU 30003
 }
 
+// What a cycle answers, and of what it did that it acknowledged a situation, and that it came into S4.
 pub struct Output {
     pub state: State,
     pub status: u16,
     pub speed: Rpm,
+    pub acknowledged: bool,
+    pub entered: bool,
 }
 
 pub struct CycleEnd {
@@ -113,10 +116,12 @@ pub fn cycle(d: Drive, i: Input) -> CycleEnd
     let w = word_used(i.stw1, d.word); // step 1
     let setpoint = setpoint_used(i.stw1, nsoll, last_setpoint);
     let b = word::decode(w);
-    let left = faults::after_ack(b, word::decode(d.word), i.fault, last_faults); // step 2
+    let acknowledged = faults::acknowledges(b, word::decode(d.word), i.fault, last_faults); // step 2
+    let left = faults::after_ack(acknowledged, last_faults);
     let f = faults::after_code(i.fault, left); // step 3
     let empty = faults::is_empty(f); // step 4
     let s = states::state_after(!empty, last_state, b, i.standstill);
+    let entered = states::enters_s4(last_state, s);
     let e = effective_setpoint(s, b, last_effective, setpoint); // step 5
     let near = status::is_near(e, nist, i.window); // step 6
     let fast = status::is_fast(nist, i.threshold);
@@ -135,6 +140,8 @@ pub fn cycle(d: Drive, i: Input) -> CycleEnd
         state: s,
         status: z,
         speed: speed,
+        acknowledged: acknowledged,
+        entered: entered,
     };
     CycleEnd {
         drive: drive,

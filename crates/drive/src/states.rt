@@ -1,6 +1,6 @@
 // Step 4: the six states and the transitions between them.
 ghost use mathlib.Core.Path.{_≡_};
-ghost use Rattle.drive.specs.Cycle.{fromS1, fromS2, fromS3, fromS4, fromS51, fromS52, nextOf, stateAfter, isS4};
+ghost use Rattle.drive.specs.Cycle.{fromS1, fromS2, fromS3, fromS4, fromS51, fromS52, nextOf, stateAfter, isS4, entersS4};
 use super::word::Word;
 
 pub enum State {
@@ -156,4 +156,13 @@ pub(crate) fn is_s4(s: State) -> bool
         State::S51 => false,
         State::S52 => false,
     }
+}
+
+// Whether a cycle that ends in a state came into S4 from another one.
+pub(crate) fn enters_s4(before: State, s: State) -> bool
+    ensures { λ r. ⌜ r ≡ entersS4 before s ⌝ }
+{
+    let was = is_s4(before);
+    let is = is_s4(s);
+    if was { false } else { is }
 }

@@ -18,7 +18,7 @@ use Rattle.drive.specs.declared.Drive.{Drive}
 use Rattle.drive.specs.declared.Input.{Input}
 use Rattle.drive.specs.Faults.{situationCodes, bufferCodes, acknowledgedOf, holds, endOf, hasRoom, putOf}
 use Rattle.drive.specs.Speed.{still}
-use Rattle.drive.specs.Cycle.{wordOf, wordUsed, setpointUsed, acknowledges, afterAck, afterCode, isS4, effectiveOf, stateBits, flagOf, statusOf, cycleOf}
+use Rattle.drive.specs.Cycle.{wordOf, wordUsed, setpointUsed, afterAck, afterCode, isS4, effectiveOf, stateBits, flagOf, statusOf, cycleOf}
 use Rattle.drive.proofs.Laws.{keeps-length}
 use Rattle.catalogue.specs.Table.{offsetOf}
 use Rattle.part.specs.Layout.{effectiveAt}
@@ -94,10 +94,10 @@ set-fits (y ∷ ys) (suc k) x s h = (h .0, set-fits ys k x s (h .1))
 abbrev FaultsFit : Faults → Type 0
 FaultsFit f = (f .counter < 65536) × Words (f .buffer)
 
-ack-fits : (w last x : ℕ) (f : Faults) → FaultsFit f → FaultsFit (afterAck (wordOf w) (wordOf last) x f)
+ack-fits : (acknowledged : Bool) (f : Faults) → FaultsFit f → FaultsFit (afterAck acknowledged f)
 unfolding afterAck
-ack-fits w last x f h =
-    either FaultsFit (acknowledges (wordOf w) (wordOf last) x f) (acknowledgedOf f) f
+ack-fits acknowledged f h =
+    either FaultsFit acknowledged (acknowledgedOf f) f
     (omega arith, zeros-fit situationCodes (take (bufferCodes - situationCodes) (f .buffer)) (take-fits (bufferCodes - situationCodes) (f .buffer) (h .1))) h
 
 code-fits : (x : ℕ) (f : Faults) → x < 65536 → FaultsFit f → FaultsFit (afterCode x f)
@@ -121,7 +121,7 @@ pub cycled-fits : (d : Drive) (i : Input) → Fits d → InputFits i → Fits (c
 unfolding cycleOf wordUsed setpointUsed
 cycled-fits d i f g =
     let setpoint = either SpeedFits (wordOf (i .stw1) .b10) (i .nsoll) (d .setpoint) (g .nsoll) (f .setpoint) in
-    let faults = code-fits (i .fault) _ (g .fault) (ack-fits (wordUsed (i .stw1) (d .word)) (d .word) (i .fault) (d .faults) (f .counter, f .codes)) in
+    let faults = code-fits (i .fault) _ (g .fault) (ack-fits _ (d .faults) (f .counter, f .codes)) in
     record {
       word = either (λ (x : ℕ). x < 65536) (wordOf (i .stw1) .b10) (i .stw1) (d .word) (g .stw1) (f .word);
       setpoint = setpoint;
