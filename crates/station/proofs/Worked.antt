@@ -10,7 +10,7 @@ use Rattle.codes.specs.Number.{numberAt, put}
 use Rattle.blocks.specs.Block.{formatSize, valueSize, changeBlockFits, responseBlockFits, valuesOf, valuesSize, block}
 use Rattle.blocks.specs.Request.{address, requestBlocks, request}
 use Rattle.blocks.specs.Response.{responseBlocks, hasError, errorsFit, response}
-use Rattle.drive.specs.Cycle.{wordOf, wordUsed, setpointUsed, afterAck, afterCode, stateAfter, effectiveOf, nearOf, fastOf, statusOf, cycleOf}
+use Rattle.drive.specs.Cycle.{wordOf, wordUsed, setpointUsed, acknowledges, afterAck, afterCode, stateAfter, effectiveOf, nearOf, fastOf, statusOf, entersS4, cycleOf}
 use Rattle.catalogue.specs.Table.{rows, parameterBytes, findOf, offsetOf}
 use Rattle.catalogue.specs.Element.{inside, elementOf, putElement}
 use Rattle.codes.proofs.Put.{put-length}
@@ -39,11 +39,11 @@ abbrev calls : List Call
 calls = map (λ w. w .call) workedCalls
 
 answers-computed : runAnswers (machine kinds) calls (freshParts farms) ≡ map (λ w. w .answer) workedCalls
-unfolding readable numberAt put formatSize valueSize changeBlockFits responseBlockFits valuesOf valuesSize block address requestBlocks request responseBlocks hasError errorsFit response wordOf wordUsed setpointUsed afterAck afterCode stateAfter effectiveOf nearOf fastOf statusOf cycleOf rows parameterBytes findOf offsetOf inside elementOf putElement withResponse stateOf driveOf putDrive freshPart limitsFit fixedFit waitingFits unusedFit wellFormed checked readBlock changeOne worked outcomeOf window withWindow stationRefusal frameRefusal frameAnswer frameReply framePart cycleRefusal cycleAnswer cyclePart runAnswers answer after
+unfolding readable numberAt put formatSize valueSize changeBlockFits responseBlockFits valuesOf valuesSize block address requestBlocks request responseBlocks hasError errorsFit response wordOf wordUsed setpointUsed acknowledges afterAck afterCode stateAfter effectiveOf nearOf fastOf statusOf entersS4 cycleOf rows parameterBytes findOf offsetOf inside elementOf putElement withResponse stateOf driveOf putDrive freshPart limitsFit fixedFit waitingFits unusedFit wellFormed checked readBlock changeOne worked outcomeOf window withWindow stationRefusal frameRefusal frameAnswer frameReply framePart cycleRefusal cycleAnswer cyclePart runAnswers answer after
 answers-computed = refl
 
 end-computed : runEnd (machine kinds) calls (freshParts farms) ≡ withPart 1 endedPart (freshParts farms)
-unfolding readable numberAt put formatSize valueSize changeBlockFits responseBlockFits valuesOf valuesSize block address requestBlocks request responseBlocks hasError errorsFit response wordOf wordUsed setpointUsed afterAck afterCode stateAfter effectiveOf nearOf fastOf statusOf cycleOf rows parameterBytes findOf offsetOf inside elementOf putElement withResponse stateOf driveOf putDrive freshPart limitsFit fixedFit waitingFits unusedFit wellFormed checked readBlock changeOne worked outcomeOf window withWindow stationRefusal frameRefusal frameAnswer frameReply framePart cycleRefusal cycleAnswer cyclePart runEnd answer after
+unfolding readable numberAt put formatSize valueSize changeBlockFits responseBlockFits valuesOf valuesSize block address requestBlocks request responseBlocks hasError errorsFit response wordOf wordUsed setpointUsed acknowledges afterAck afterCode stateAfter effectiveOf nearOf fastOf statusOf entersS4 cycleOf rows parameterBytes findOf offsetOf inside elementOf putElement withResponse stateOf driveOf putDrive freshPart limitsFit fixedFit waitingFits unusedFit wellFormed checked readBlock changeOne worked outcomeOf window withWindow stationRefusal frameRefusal frameAnswer frameReply framePart cycleRefusal cycleAnswer cyclePart runEnd answer after
 end-computed = refl
 
 marks-computed : wordsAt 4 endedPart (offsetOf 30001) ≡ 1000 ∷ 0 ∷ 0 ∷ 0 ∷ []

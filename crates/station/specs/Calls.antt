@@ -3,7 +3,7 @@ use mathlib.Core.List.{List}
 use Prim.Native.Nat.{ℕ}
 use lib.ListN.{length}
 use Rattle.codes.specs.Number.{put}
-use Rattle.station.specs.declared.Cycled.{Cycled}
+use Rattle.station.specs.declared.CycleDone.{CycleDone}
 use Rattle.station.specs.declared.Framed.{Framed}
 use Rattle.station.specs.Frame.{refusedReply, frameAnswer, frameReply, framePart}
 use Rattle.station.specs.Cycle.{Sent, refusedCycle, cycleAnswer, cyclePart}
@@ -14,9 +14,9 @@ pub data Call : Type 0 where
   cycle : (axis : ℕ) (i : Sent) → Call
   frame : (farm : ℕ) (f reply : List ℕ) → Call
 
--- what a call returns, and for a frame the reply memory after it
+-- what a call returns: for a cycle with what it did, and for a frame with the reply memory after it
 pub data Answer : Type 0 where
-  toCycle : Cycled → Answer
+  toCycle : CycleDone → Answer
   toFrame : Framed → List ℕ → Answer
 
 abbrev pub owner : Call → ℕ

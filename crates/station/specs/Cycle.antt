@@ -1,5 +1,5 @@
 -- Document 01, "Control cycle" on the part of its axis, and "Cycles use 1, 2 and 12; a refused cycle answers its number and zeros."
-use mathlib.Core.Bool.{cond, not}
+use mathlib.Core.Bool.{false, cond, not}
 use mathlib.Core.List.{List}
 use Prim.Native.Nat.{ℕ}
 use lib.Dec.{eqb, ltb}
@@ -11,7 +11,7 @@ use Rattle.drive.specs.Cycle.{bit, cycleOf}
 use Rattle.catalogue.specs.Table.{offsetOf}
 use Rattle.part.specs.Record.{numberOf, driveOf, putDrive}
 use Rattle.part.specs.WellFormed.{wellFormed}
-use Rattle.station.specs.declared.Cycled.{Cycled}
+use Rattle.station.specs.declared.CycleDone.{CycleDone}
 
 -- "flags byte (bit 0 standstill, bit 1 warning), STW1, NSOLL_A and NIST_A (signed 16 bits), fault code (0 = none)"
 pub record Sent : Type 0 where
@@ -43,14 +43,19 @@ cycleTests i = cond (ltb 3 (i .flags)) 12 0
 unfoldable pub cycleRefusal : ℕ → Sent → List ℕ → ℕ
 cycleRefusal k i p = cond (not (wellFormed k p)) 2 (cycleTests i)
 
--- "a refused cycle answers its number and zeros"
-abbrev pub refusedCycle : ℕ → Cycled
-refusedCycle n = record { rpm = pos 0; status = 0; state = 0; number = n }
+-- "a refused cycle answers its number and zeros", and did nothing
+abbrev pub refusedCycle : ℕ → CycleDone
+refusedCycle n = record { told = record { rpm = pos 0; status = 0; state = 0; number = n }; acknowledged = false; entered = false }
 
-abbrev pub cycled : Output → Cycled
-cycled a = record { rpm = a .speed .0; status = a .status; state = numberOf (a .state); number = 0 }
+abbrev pub cycled : Output → CycleDone
+cycled a =
+    record {
+      told = record { rpm = a .speed .0; status = a .status; state = numberOf (a .state); number = 0 };
+      acknowledged = a .acknowledged;
+      entered = a .entered;
+    }
 
-unfoldable pub cycleAnswer : ℕ → Sent → List ℕ → Cycled
+unfoldable pub cycleAnswer : ℕ → Sent → List ℕ → CycleDone
 cycleAnswer k i p =
     let n = cycleRefusal k i p in
     cond (eqb n 0) (cycled (cycleOf (driveOf p) (inputOf i p) .output)) (refusedCycle n)

@@ -40,7 +40,7 @@ KeepsOthers =
 
 -- the number that an answer gives; 0 where the call was done
 abbrev pub numberIn : Answer → ℕ
-numberIn (toCycle a) = a .number
+numberIn (toCycle a) = a .told .number
 numberIn (toFrame a m) = a .number
 
 -- Document 01's table of refusal numbers, for any call on a station: the first that applies, or 0

@@ -1,6 +1,7 @@
 -- Document 01, "Journal program" and "Worked by hand": P1 to P8, the calls on a fresh station in order, what each answers, and how
 -- the station ends.
 use mathlib.Core.Path.{_≡_}
+use mathlib.Core.Bool.{Bool, true, false}
 use mathlib.Core.List.{List, [], _∷_, _++_, map}
 use Prim.Native.Nat.{ℕ, _-_, _≤_}
 use lib.IntN.{pos}
@@ -21,12 +22,12 @@ pub record WorkedCall : Type 0 where
   pub call : Call
   pub answer : Answer
 
--- a cycle on axis 1, all unnamed fields 0, and its line: state, ZSW1, rpm
-abbrev pub cycleExample : ℕ → ℕ → ℕ → ℕ → ℕ → WorkedCall
-cycleExample stw1 nsoll state status rpm =
+-- a cycle on axis 1, all unnamed fields 0, and its line: state, ZSW1, rpm; and whether it entered S4
+abbrev pub cycleExample : ℕ → ℕ → ℕ → ℕ → ℕ → Bool → WorkedCall
+cycleExample stw1 nsoll state status rpm entered =
     record {
       call = cycle 1 (record { flags = 0; stw1 = stw1; nsoll = pos nsoll; nist = pos 0; fault = 0 });
-      answer = toCycle (record { rpm = pos rpm; status = status; state = state; number = 0 });
+      answer = toCycle (record { told = record { rpm = pos rpm; status = status; state = state; number = 0 }; acknowledged = false; entered = entered });
     }
 
 -- a frame with 244 bytes of reply memory, and its line: elements stored, and the reply, past which nothing changes; and its number
@@ -65,10 +66,10 @@ readsReply =
 -- the four cycles (P1 to P4), the two frames of farm 1 (P5, P6), the denied frame (P7), and the four reads with their fetch (P8)
 abbrev pub workedCalls : List WorkedCall
 workedCalls =
-    cycleExample 0x047E 0 2 0x0331 0
-    ∷ cycleExample 0x047F 0 3 0x0333 0
-    ∷ cycleExample 0x047F 0x2000 4 0x0237 750
-    ∷ cycleExample 0x047D 0 1 0x0360 0
+    cycleExample 0x047E 0 2 0x0331 0 false
+    ∷ cycleExample 0x047F 0 3 0x0333 0 false
+    ∷ cycleExample 0x047F 0x2000 4 0x0237 750 true
+    ∷ cycleExample 0x047D 0 1 0x0360 0 false
     ∷ frameExample 1 marksFrame 1 (0x5F ∷ 0x00 ∷ 0x2F ∷ 0x10 ∷ []) 0
     ∷ frameExample 1 fetchFrame 0 (0x5E ∷ 0x00 ∷ 0x2F ∷ 0x08 ∷ 0x07 ∷ 0x82 ∷ 0x01 ∷ 0x01 ∷ 0x44 ∷ 0x01 ∷ 0x00 ∷ 0x02 ∷ []) 0
     ∷ frameExample 2 marksFrame 0 (0xDF ∷ 0x80 ∷ 0xB6 ∷ 0x00 ∷ []) 11

@@ -9,7 +9,7 @@ mod part_frame; // part_frame.rt: a frame on the part of its farm
 mod judge; // judge.rt: the tests 2 to 9 of a frame
 mod reply; // reply.rt: what is written in the reply memory
 
-// What a cycle answers. This and the next are laid out as in C, since exported calls hand them on.
+// What a host is told of a cycle. This and the next are laid out as in C, since exported calls hand them on.
 #[repr(C)]
 pub struct Cycled {
     pub rpm: i32,
@@ -24,6 +24,13 @@ pub struct Framed {
     pub length: u16,
     pub stored: u16,
     pub number: u8,
+}
+
+// A cycle's answer: what a host is told, and of what the cycle did that it acknowledged a situation, and that it came into S4.
+pub struct CycleDone {
+    pub told: Cycled,
+    pub acknowledged: bool,
+    pub entered: bool,
 }
 
 // Farms, and axes.
@@ -81,7 +88,7 @@ pub fn cycle(
     nsoll: i16,
     nist: i16,
     fault: u16,
-) -> Cycled
+) -> CycleDone
     ensures { λ r. ⌜ toCycle r ≡ answer kinds (cycle axis (record { flags = flags; stw1 = stw1; nsoll = nsoll; nist = nist; fault = fault })) (now (station .entry)) ⌝ }
     ensures { λ r. ⌜ now (station .exit) ≡ after kinds (cycle axis (record { flags = flags; stw1 = stw1; nsoll = nsoll; nist = nist; fault = fault })) (now (station .entry)) ⌝ }
 {

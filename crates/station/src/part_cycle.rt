@@ -1,20 +1,26 @@
 // A control cycle on the part of its axis.
 ghost use mathlib.Core.Path.{_≡_};
 ghost use Rattle.station.specs.Cycle.{inputOf, refusedCycle, cycled, cycleAnswer, cyclePart};
+use super::CycleDone;
 use super::Cycled;
 use drive::Input;
 use drive::N2;
 use drive::Output;
 
-// A refused cycle answers its number and zeros.
-pub(crate) fn refused_cycle(n: u8) -> Cycled
+// A refused cycle answers its number and zeros, and did nothing.
+pub(crate) fn refused_cycle(n: u8) -> CycleDone
     ensures { λ r. ⌜ r ≡ refusedCycle n ⌝ }
 {
-    Cycled {
+    let told = Cycled {
         rpm: 0,
         status: 0,
         state: 0,
         number: n,
+    };
+    CycleDone {
+        told: told,
+        acknowledged: false,
+        entered: false,
     }
 }
 
@@ -35,16 +41,21 @@ fn input_of(part: &[u8], flags: u32, stw1: u16, nsoll: i16, nist: i16, fault: u1
     }
 }
 
-fn answered(a: Output) -> Cycled
+fn answered(a: Output) -> CycleDone
     ensures { λ r. ⌜ r ≡ cycled a ⌝ }
 {
     let s = a.state;
     let v = a.speed;
-    Cycled {
+    let told = Cycled {
         rpm: v.0,
         status: a.status,
         state: part::number_of(s),
         number: 0,
+    };
+    CycleDone {
+        told: told,
+        acknowledged: a.acknowledged,
+        entered: a.entered,
     }
 }
 
@@ -57,7 +68,7 @@ pub(crate) fn cycle_on(
     nsoll: i16,
     nist: i16,
     fault: u16,
-) -> Cycled
+) -> CycleDone
     ensures { λ r. ⌜ r ≡ cycleAnswer k (record { flags = flags; stw1 = stw1; nsoll = nsoll; nist = nist; fault = fault }) (now (part .entry)) ⌝ }
     ensures { λ r. ⌜ now (part .exit) ≡ cyclePart k (record { flags = flags; stw1 = stw1; nsoll = nsoll; nist = nist; fault = fault }) (now (part .entry)) ⌝ }
 {
