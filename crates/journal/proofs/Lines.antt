@@ -1,5 +1,5 @@
 -- The lines, piece by piece.
-use mathlib.Core.Path.{_≡_, sym, ap}
+use mathlib.Core.Path.{_≡_, ap}
 use mathlib.Core.Bool.{Bool, true, false, cond}
 use mathlib.Core.List.{List, [], _∷_, _++_, append-assoc}
 use Prim.Native.Nat.{ℕ, zero, suc, _≤_}
@@ -17,7 +17,7 @@ use Rattle.part.specs.Layout.{waitingLength, responseAt, responseRoom, waiting}
 use Rattle.station.specs.Parts.{stationRefusal, partOf}
 use Rattle.station.specs.Frame.{isWrite, frameRefusal, refusedReply, workedReply, replyOf, frameAnswer}
 use Rattle.journal.specs.Text.{decimal, signed, hexWord, hexBytes}
-use Rattle.journal.specs.Line.{frameLength, replyRoom, space, stateName, cycleLine, replyText, frameLine, cycleCall, frameCall, lineOf, written}
+use Rattle.journal.specs.Line.{frameLength, replyRoom, space, stateName, cycleLine, replyText, frameLine, cycleCall, frameCall}
 
 pub cycle-refused : (axis : ℕ) (r : Cycled) → (r .number ≡ 0 → ⊥) → cycleLine axis r ≡ 0x78 ∷ space ∷ decimal (r .number)
 cycle-refused axis r n = rw (ne-eqb (r .number) 0 n)
@@ -41,15 +41,8 @@ pub cycle-call : (r : List ℕ) (w f : ℕ) (n i : ℤ) → w ≡ numberAt 2 r 3
     → cycle (getD r 1 0) (record { flags = getD r 2 0; stw1 = w; nsoll = n; nist = i; fault = f }) ≡ cycleCall r
 cycle-call r w f n i hw hn hi hf = rw (hw, hn, hi, hf)
 
-pub frame-call : (r : List ℕ) (n : ℕ) → n ≡ frameLength r → frame (getD r 1 0) (take n (drop 3 r)) replyRoom ≡ frameCall r
-frame-call r n e = ap (λ (k : ℕ). frame (getD r 1 0) (take k (drop 3 r)) replyRoom) e
-
--- a call's answer decides its line
-pub cycle-written : (r s : List ℕ) (c : Cycled) → toCycle c ≡ answer kinds (cycleCall r) s → written r (cycleCall r) s ≡ cycleLine (getD r 1 0) c ++ (0x0A ∷ [])
-cycle-written r s c e = ap (λ (a : Answer). lineOf r a ++ (0x0A ∷ [])) (sym e)
-
-pub frame-written : (r s : List ℕ) (f : Framed) (reply : List ℕ) → toFrame f reply ≡ answer kinds (frameCall r) s → written r (frameCall r) s ≡ frameLine (getD r 1 0) f reply ++ (0x0A ∷ [])
-frame-written r s f reply e = ap (λ (a : Answer). lineOf r a ++ (0x0A ∷ [])) (sym e)
+pub frame-call : (r : List ℕ) (n : ℕ) (m : List ℕ) → n ≡ frameLength r → m ≡ replyRoom → frame (getD r 1 0) (take n (drop 3 r)) m ≡ frameCall r
+frame-call r n m e room = λ j. frame (getD r 1 0) (take (e j) (drop 3 r)) (room j)
 
 -- no reply is longer than the largest frame
 either : (b : Bool) (xs ys : List ℕ) → length xs ≤ 244 → length ys ≤ 244 → length (cond b xs ys) ≤ 244

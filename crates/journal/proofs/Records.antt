@@ -13,9 +13,12 @@ use borrow.Author.Tests.{eqb-true, leb-true, eq-eqb, ne-eqb}
 use Rattle.codes.specs.Number.{put}
 use Rattle.codes.proofs.Put.{put-fits}
 use Rattle.drive.specs.Faults.{zeros}
-use Rattle.station.specs.Calls.{kinds}
-use Rattle.station.specs.Isolation.{after}
-use Rattle.journal.specs.Line.{recordLength, cycleRecord, frameRecord, cycleCall, frameLength, frameCall, isCycle, isFrame, isRecord, written, badLine, recordLine, recordAfter}
+use Rattle.station.specs.Calls.{Call, kinds}
+use Rattle.station.specs.Isolation.{answer, after}
+use Rattle.journal.specs.Line.{recordLength, cycleRecord, frameRecord, cycleCall, frameLength, frameCall, isCycle, isFrame, isRecord, callOf, lineOf, badLine, recordLine, recordAfter}
+use Rattle.journal.specs.declared.Did.{Did}
+use Rattle.journal.specs.declared.Did.the-variants.{Bad}
+use Rattle.journal.specs.History.{told, didOf}
 
 -- bytes tested for 0, from a place on
 pub clear-past : (s : List ℕ) (i : ℕ) → length s ≤ i → zeros (drop i s) ≡ true
@@ -56,25 +59,33 @@ record-whole r = go (isCycle r) (isFrame r) refl refl
         ap recordLength (eqb-true (getD r 0 0) 2 (and-eq-true-iff (eqb (getD r 0 0) 2) rest .0 (x .1) .0)) ∙ sym (frame-lengths r b .0)
     go false false a b e = absurd (true≢false (sym e))
 
--- what a play promises, by what the bytes are
+-- what a play and an act promise, by what the bytes are
 module _ (r s : List ℕ) where
-  abbrev pub Comes : List ℕ → List ℕ → Bool → Type 0
-  Comes line after good = (recordLine r s ≡ line) × (recordAfter r s ≡ after) × (isRecord r ≡ good)
+  pub record Comes (l t : List ℕ) (d : Did) (g : Bool) : Type 0 where
+    pub line : recordLine r s ≡ l
+    pub after : recordAfter r s ≡ t
+    pub did : didOf r s ≡ d
+    pub good : isRecord r ≡ g
 
-  pub comes-cycle : isCycle r ≡ true → Comes (written r (cycleCall r) s) (after kinds (cycleCall r) s) true
-  unfolding recordLine recordAfter isRecord
-  comes-cycle h = (rw h, rw h, rw h)
+  -- a record, by its call
+  comes : (c : Call) → isRecord r ≡ true → callOf r ≡ c → Comes (lineOf c (answer kinds c s)) (after kinds c s) (told c (answer kinds c s)) true
+  unfolding recordLine recordAfter didOf
+  comes c good call = record { line = rw (good, call); after = rw (good, call); did = rw (good, call); good = good }
 
-  pub comes-frame : isCycle r ≡ false → isFrame r ≡ true → Comes (written r (frameCall r) s) (after kinds (frameCall r) s) true
-  unfolding recordLine recordAfter isRecord
-  comes-frame g h = (rw (g, h), rw (g, h), rw (g, h))
+  pub comes-cycle : isCycle r ≡ true → Comes (lineOf (cycleCall r) (answer kinds (cycleCall r) s)) (after kinds (cycleCall r) s) (told (cycleCall r) (answer kinds (cycleCall r) s)) true
+  unfolding isRecord callOf
+  comes-cycle h = comes (cycleCall r) (rw h) (rw h)
 
-  pub comes-bad : isCycle r ≡ false → isFrame r ≡ false → Comes badLine s false
-  unfolding recordLine recordAfter isRecord
-  comes-bad g h = (rw (g, h), rw (g, h), rw (g, h))
+  pub comes-frame : isCycle r ≡ false → isFrame r ≡ true → Comes (lineOf (frameCall r) (answer kinds (frameCall r) s)) (after kinds (frameCall r) s) (told (frameCall r) (answer kinds (frameCall r) s)) true
+  unfolding isRecord callOf
+  comes-frame g h = comes (frameCall r) (rw (g, h)) (rw g)
 
-  module _ {bs u : List ℕ} {good : Bool} (e : Comes bs u good) (l : List ℕ) {m t : List ℕ} {p : ℕ} where
-    pub played : m ≡ put l 0 bs → p ≡ length bs → p ≤ 513 → length l ≡ 513 → t ≡ u → (m ≡ recordLine r s ++ drop p l) × (((p ≡ length (recordLine r s)) × (p ≤ 513)) × ((good ≡ isRecord r) × (t ≡ recordAfter r s)))
+  pub comes-bad : isCycle r ≡ false → isFrame r ≡ false → Comes badLine s Bad false
+  unfolding recordLine recordAfter didOf isRecord
+  comes-bad g h = record { line = rw (g, h); after = rw (g, h); did = rw (g, h); good = rw (g, h) }
+
+  module _ {bs u : List ℕ} {d : Did} {g : Bool} (e : Comes bs u d g) (l : List ℕ) {m t : List ℕ} {p : ℕ} where
+    pub played : m ≡ put l 0 bs → p ≡ length bs → p ≤ 513 → length l ≡ 513 → t ≡ u → (m ≡ recordLine r s ++ drop p l) × (((p ≡ length (recordLine r s)) × (p ≤ 513)) × ((g ≡ isRecord r) × (t ≡ recordAfter r s)))
     played put-there long fits room left =
         let all : m ≡ bs ++ drop p l = put-there ∙ (put-fits l 0 bs (omega arith) ∙ ap (λ (k : ℕ). bs ++ drop k l) (zero-add (length bs) ∙ sym long)) in
-        (rw (e .0) all, ((rw (e .0) long, fits), (sym (e .2), left ∙ sym (e .1))))
+        (rw (e .line) all, ((rw (e .line) long, fits), (sym (e .good), left ∙ sym (e .after))))

@@ -8,7 +8,7 @@ use Rattle.codes.specs.Number.{numberAt, signedOf}
 use Rattle.drive.specs.Faults.{zeros}
 use Rattle.station.specs.declared.Cycled.{Cycled}
 use Rattle.station.specs.declared.Framed.{Framed}
-use Rattle.station.specs.Calls.{Call, cycle, frame, Answer, toCycle, toFrame, kinds}
+use Rattle.station.specs.Calls.{Call, cycle, frame, Answer, toCycle, toFrame, owner, kinds}
 use Rattle.station.specs.Isolation.{answer, after}
 use Rattle.journal.specs.Text.{decimal, signed, hexWord, hexBytes}
 
@@ -27,6 +27,13 @@ recordLength kind = cond (eqb kind 1) cycleRecord (cond (eqb kind 2) frameRecord
 -- the longest of them
 abbrev pub longestRecord : ℕ
 longestRecord = frameRecord
+
+-- the next record of what is left of a journal, "or a cut body"; and what is left past it
+unfoldable pub nextRecord : List ℕ → List ℕ
+nextRecord bs = take (recordLength (getD bs 0 0)) bs
+
+unfoldable pub pastRecord : List ℕ → List ℕ
+pastRecord bs = drop (recordLength (getD bs 0 0)) bs
 
 abbrev pub cycleCall : List ℕ → Call
 cycleCall r =
@@ -78,13 +85,10 @@ abbrev pub frameLine : ℕ → Framed → List ℕ → List ℕ
 frameLine farm r reply =
     0x66 ∷ space ∷ decimal farm ++ (space ∷ decimal (r .stored) ++ (space ∷ replyText (take (r .length) reply)))
 
-abbrev pub lineOf : List ℕ → Answer → List ℕ
-lineOf r (toCycle c) = cycleLine (getD r 1 0) c
-lineOf r (toFrame f reply) = frameLine (getD r 1 0) f reply
-
--- the line that a call of the record r writes on the station s
-abbrev pub written : List ℕ → Call → List ℕ → List ℕ
-written r c s = lineOf r (answer kinds c s) ++ (0x0A ∷ [])
+-- the line of a call and its answer
+abbrev pub lineOf : Call → Answer → List ℕ
+lineOf c (toCycle d) = cycleLine (owner c) (d .told) ++ (0x0A ∷ [])
+lineOf c (toFrame f reply) = frameLine (owner c) f reply ++ (0x0A ∷ [])
 
 -- "Anything else, or a cut body, writes `bad` and ends"
 abbrev pub badLine : List ℕ
@@ -93,8 +97,13 @@ badLine = 0x62 ∷ 0x61 ∷ 0x64 ∷ 0x0A ∷ []
 unfoldable pub isRecord : List ℕ → Bool
 isRecord r = isCycle r || isFrame r
 
+-- the call of a record
+unfoldable pub callOf : List ℕ → Call
+callOf r = cond (isCycle r) (cycleCall r) (frameCall r)
+
+-- the line that the bytes r write on the station s, and the station after them
 unfoldable pub recordLine : List ℕ → List ℕ → List ℕ
-recordLine r s = cond (isCycle r) (written r (cycleCall r) s) (cond (isFrame r) (written r (frameCall r) s) badLine)
+recordLine r s = cond (isRecord r) (lineOf (callOf r) (answer kinds (callOf r) s)) badLine
 
 unfoldable pub recordAfter : List ℕ → List ℕ → List ℕ
-recordAfter r s = cond (isCycle r) (after kinds (cycleCall r) s) (cond (isFrame r) (after kinds (frameCall r) s) s)
+recordAfter r s = cond (isRecord r) (after kinds (callOf r) s) s

@@ -1,19 +1,23 @@
-// One record of a journal, played on a station, and its line.
+// One record of a journal, played on a station: what it did, and its line.
 ghost use mathlib.Core.Path.{_≡_};
 ghost use mathlib.Core.List.{_++_};
 ghost use Prim.Native.Nat.{_≤_};
 ghost use lib.ListN.{length, drop};
 ghost use Rattle.codes.specs.Number.{put};
 ghost use Rattle.station.specs.Calls.{kinds};
-ghost use Rattle.station.specs.Isolation.{after};
-ghost use Rattle.journal.specs.Line.{cycleRecord, frameRecord, frameLength, isRecord, cycleCall, frameCall, written, recordLine, recordAfter};
+ghost use Rattle.station.specs.Isolation.{answer, after};
+ghost use Rattle.journal.specs.Line.{cycleRecord, frameRecord, frameLength, isRecord, cycleCall, frameCall, lineOf, recordLine, recordAfter};
+ghost use Rattle.journal.specs.History.{didOf};
+use station::CycleDone;
+use station::Framed;
 
+mod call; // call.rt: the call of a record
 mod line; // line.rt: the lines
 mod record; // record.rt: which bytes are a record
 mod text; // text.rt: numbers as text, at a place of a line
 
 pub use record::longest_record;
-pub use record::record_length;
+pub use record::next_length;
 
 // Room for any line: `f`, two numbers of at most ten digits, three spaces, 244 bytes in hex, and the line's end.
 pub const LINE: usize = 513;
@@ -24,48 +28,36 @@ pub struct Played {
     pub good: bool,
 }
 
+// What a record did: a cycle of an axis, or a frame of a farm; nothing, where it is bad.
+pub enum Did {
+    Cycle(u8, CycleDone),
+    Frame(u8, Framed),
+    Bad,
+}
+
 // Plays a record of a cycle.
 fn play_cycle(station: &mut [u8], bytes: &[u8], line: &mut [u8]) -> usize
     requires { ⌜ (length (now bytes) ≡ cycleRecord) × (length (now line) ≡ 513) ⌝ }
-    ensures { λ r. ⌜ now (line .exit) ≡ put (now (line .entry)) 0 (written (now (bytes .entry)) (cycleCall (now (bytes .entry))) (now (station .entry))) ⌝ }
-    ensures { λ r. ⌜ (r ≡ length (written (now (bytes .entry)) (cycleCall (now (bytes .entry))) (now (station .entry)))) × (r ≤ 513) ⌝ }
+    ensures { λ r. ⌜ now (line .exit) ≡ put (now (line .entry)) 0 (lineOf (cycleCall (now (bytes .entry))) (answer kinds (cycleCall (now (bytes .entry))) (now (station .entry)))) ⌝ }
+    ensures { λ r. ⌜ (r ≡ length (lineOf (cycleCall (now (bytes .entry))) (answer kinds (cycleCall (now (bytes .entry))) (now (station .entry))))) × (r ≤ 513) ⌝ }
     ensures { λ r. ⌜ now (station .exit) ≡ after kinds (cycleCall (now (bytes .entry))) (now (station .entry)) ⌝ }
 {
-    let axis = bytes[1];
-    let stw1 = codes::word_at(bytes, 3);
-    let nsoll = codes::signed16(codes::word_at(bytes, 5));
-    let nist = codes::signed16(codes::word_at(bytes, 7));
-    let fault = codes::word_at(bytes, 9);
-    let c = station::cycle(
-        station,
-        axis as u32,
-        bytes[2] as u32,
-        stw1,
-        nsoll,
-        nist,
-        fault,
-    );
-    let next = line::put_cycle(line, axis, c);
+    let c = call::cycle(station, bytes);
+    let told = c.told;
+    let next = line::put_cycle(line, bytes[1], told);
     text::put_byte(line, next, b'\n')
 }
 
 // Plays a record of a frame.
 fn play_frame(station: &mut [u8], bytes: &[u8], line: &mut [u8]) -> usize
     requires { ⌜ (length (now bytes) ≡ frameRecord) × ((frameLength (now bytes) ≤ 244) × (length (now line) ≡ 513)) ⌝ }
-    ensures { λ r. ⌜ now (line .exit) ≡ put (now (line .entry)) 0 (written (now (bytes .entry)) (frameCall (now (bytes .entry))) (now (station .entry))) ⌝ }
-    ensures { λ r. ⌜ (r ≡ length (written (now (bytes .entry)) (frameCall (now (bytes .entry))) (now (station .entry)))) × (r ≤ 513) ⌝ }
+    ensures { λ r. ⌜ now (line .exit) ≡ put (now (line .entry)) 0 (lineOf (frameCall (now (bytes .entry))) (answer kinds (frameCall (now (bytes .entry))) (now (station .entry)))) ⌝ }
+    ensures { λ r. ⌜ (r ≡ length (lineOf (frameCall (now (bytes .entry))) (answer kinds (frameCall (now (bytes .entry))) (now (station .entry))))) × (r ≤ 513) ⌝ }
     ensures { λ r. ⌜ now (station .exit) ≡ after kinds (frameCall (now (bytes .entry))) (now (station .entry)) ⌝ }
 {
-    let farm = bytes[1];
-    let end = record::FRAME_HEAD + codes::wide(bytes[2]);
     let mut reply = [0u8; record::FRAME_ROOM];
-    let f = station::frame(
-        station,
-        farm as u32,
-        &bytes[record::FRAME_HEAD..end],
-        &mut reply,
-    );
-    let next = line::put_frame(line, farm, f, &reply);
+    let f = call::frame(station, bytes, &mut reply);
+    let next = line::put_frame(line, bytes[1], f, &reply);
     text::put_byte(line, next, b'\n')
 }
 
@@ -92,4 +84,21 @@ pub fn play(station: &mut [u8], bytes: &[u8], line: &mut [u8; LINE]) -> Played
         length: line::put_bad(line),
         good: false,
     }
+}
+
+// Makes the call of a record on the station and answers what it did, with no line.
+pub fn act(station: &mut [u8], bytes: &[u8]) -> Did
+    ensures { λ r. ⌜ r ≡ didOf (now (bytes .entry)) (now (station .entry)) ⌝ }
+    ensures { λ r. ⌜ now (station .exit) ≡ recordAfter (now (bytes .entry)) (now (station .entry)) ⌝ }
+{
+    if record::is_cycle(bytes) {
+        let axis = bytes[1];
+        return Did::Cycle(axis, call::cycle(station, bytes));
+    }
+    if record::is_frame(bytes) {
+        let farm = bytes[1];
+        let mut reply = [0u8; record::FRAME_ROOM];
+        return Did::Frame(farm, call::frame(station, bytes, &mut reply));
+    }
+    Did::Bad
 }

@@ -1,9 +1,9 @@
 // Which bytes are a record.
 ghost use mathlib.Core.Path.{_≡_};
 ghost use Prim.Native.Nat.{_≤_};
-ghost use lib.ListN.{drop};
+ghost use lib.ListN.{length, drop};
 ghost use Rattle.drive.specs.Faults.{zeros};
-ghost use Rattle.journal.specs.Line.{recordLength, longestRecord, isCycle, isFrame};
+ghost use Rattle.journal.specs.Line.{recordLength, longestRecord, nextRecord, isCycle, isFrame};
 
 // Records, with their kind byte, and what of a frame's stands before the frame.
 const CYCLE: usize = 11;
@@ -16,7 +16,7 @@ pub(crate) const FRAME_HEAD: usize = 3;
 pub(crate) const FRAME_ROOM: usize = 244;
 
 // How long a record is, by its kind byte; anything else ends with that byte.
-pub fn record_length(kind: u8) -> usize
+fn record_length(kind: u8) -> usize
     ensures { λ r. ⌜ r ≡ recordLength kind ⌝ }
     ensures { λ r. ⌜ (1 ≤ r) × (r ≤ longestRecord) ⌝ }
 {
@@ -25,6 +25,18 @@ pub fn record_length(kind: u8) -> usize
         2 => FRAME,
         _ => 1,
     }
+}
+
+// How many of the bytes left of a journal are its next record: as many as its kind byte says, or all where it is cut.
+pub fn next_length(left: &[u8]) -> usize
+    ensures { λ r. ⌜ r ≡ length (nextRecord (now (left .entry))) ⌝ }
+    ensures { λ r. ⌜ r ≤ length (now (left .entry)) ⌝ }
+{
+    if left.len() == 0 {
+        return 0;
+    }
+    let n = record_length(left[0]);
+    if n < left.len() { n } else { left.len() }
 }
 
 // Bytes of the longest record, with its kind byte: so many are enough to hold the next one.

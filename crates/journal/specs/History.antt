@@ -1,0 +1,72 @@
+-- Document 01, "Journal program", the whole of it: a journal's bytes are parted into records, up to its end or to what is bad; the
+-- history is the call of each record with its answer; the lines are those of the history, then `bad`. Document 02, R-1, counts over
+-- the same history.
+use mathlib.Core.Bool.{Bool, cond}
+use mathlib.Core.List.{List, [], _∷_, _++_}
+use Prim.Native.Nat.{ℕ, zero, suc}
+use lib.Dec.{eqb}
+use lib.ListN.{length}
+use Rattle.station.specs.Parts.{farms, freshParts}
+use Rattle.station.specs.Calls.{Call, Answer, toCycle, toFrame, owner, kinds}
+use Rattle.station.specs.Isolation.{answer, after}
+use Rattle.journal.specs.declared.Did.{Did}
+use Rattle.journal.specs.declared.Did.the-variants.{Cycle, Frame, Bad}
+use Rattle.journal.specs.Line.{nextRecord, pastRecord, isRecord, callOf, lineOf, badLine}
+
+-- the records of a journal, and what is left from the first on that is bad: nothing, where the journal ends with a record
+pub record Parted : Type 0 where
+  pub records : List (List ℕ)
+  pub left : List ℕ
+
+abbrev withRecord : List ℕ → Parted → Parted
+withRecord r p = record { records = r ∷ p .records; left = p .left }
+
+-- the first n records
+abbrev pub partedIn : ℕ → List ℕ → Parted
+partedIn zero bs = record { records = []; left = bs }
+partedIn (suc n) bs =
+    cond (isRecord (nextRecord bs)) (withRecord (nextRecord bs) (partedIn n (pastRecord bs))) (record { records = []; left = bs })
+
+-- a record has a byte at least, so that a journal has no more records than bytes
+unfoldable pub parted : List ℕ → Parted
+parted bs = partedIn (length bs) bs
+
+-- a call, and its answer
+pub record Done : Type 0 where
+  pub call : Call
+  pub answer : Answer
+
+-- what the bytes of a record do on the station s
+abbrev pub doneBy : List ℕ → List ℕ → Done
+doneBy r s = record { call = callOf r; answer = answer kinds (callOf r) s }
+
+-- the history of records, from the station s on
+unfoldable pub history : List (List ℕ) → List ℕ → List Done
+history [] s = []
+history (r ∷ rs) s = doneBy r s ∷ history rs (after kinds (callOf r) s)
+
+-- a line for each
+abbrev pub lines : List Done → List ℕ
+lines [] = []
+lines (d ∷ ds) = lineOf (d .call) (d .answer) ++ lines ds
+
+-- "Anything else, or a cut body, writes `bad` and ends"
+abbrev pub endLine : List ℕ → List ℕ
+endLine left = cond (eqb (length left) 0) [] badLine
+
+-- the output of a replay of a journal, from the station s on
+unfoldable pub replayFrom : List ℕ → List ℕ → List ℕ
+replayFrom bs s = lines (history (parted bs .records) s) ++ endLine (parted bs .left)
+
+-- "Whole output of a fresh run"
+abbrev pub replayOf : List ℕ → List ℕ
+replayOf bs = replayFrom bs (freshParts farms)
+
+-- whose call it was, and its answer but for the reply
+abbrev pub told : Call → Answer → Did
+told c (toCycle d) = Cycle (owner c) d
+told c (toFrame f reply) = Frame (owner c) f
+
+-- what the bytes r do on the station s, told by `act`
+unfoldable pub didOf : List ℕ → List ℕ → Did
+didOf r s = cond (isRecord r) (told (callOf r) (answer kinds (callOf r) s)) Bad

@@ -1,0 +1,47 @@
+// The call of a record, made on the station.
+ghost use mathlib.Core.Path.{_≡_};
+ghost use Prim.Native.Nat.{_≤_};
+ghost use lib.ListN.{length};
+ghost use Rattle.station.specs.Isolation.{answer, after};
+ghost use Rattle.station.specs.Calls.{kinds, toCycle, toFrame};
+ghost use Rattle.journal.specs.Line.{cycleRecord, frameRecord, frameLength, cycleCall, frameCall, replyRoom};
+use super::record;
+use station::CycleDone;
+use station::Framed;
+
+// The cycle of a record.
+pub(crate) fn cycle(station: &mut [u8], bytes: &[u8]) -> CycleDone
+    requires { ⌜ length (now bytes) ≡ cycleRecord ⌝ }
+    ensures { λ r. ⌜ toCycle r ≡ answer kinds (cycleCall (now (bytes .entry))) (now (station .entry)) ⌝ }
+    ensures { λ r. ⌜ now (station .exit) ≡ after kinds (cycleCall (now (bytes .entry))) (now (station .entry)) ⌝ }
+{
+    let stw1 = codes::word_at(bytes, 3);
+    let nsoll = codes::signed16(codes::word_at(bytes, 5));
+    let nist = codes::signed16(codes::word_at(bytes, 7));
+    let fault = codes::word_at(bytes, 9);
+    station::cycle(
+        station,
+        bytes[1] as u32,
+        bytes[2] as u32,
+        stw1,
+        nsoll,
+        nist,
+        fault,
+    )
+}
+
+// The frame of a record, answered in a reply memory of zeros.
+pub(crate) fn frame(station: &mut [u8], bytes: &[u8], reply: &mut [u8]) -> Framed
+    requires { ⌜ (length (now bytes) ≡ frameRecord) × ((frameLength (now bytes) ≤ 244) × (now reply ≡ replyRoom)) ⌝ }
+    ensures { λ r. ⌜ toFrame r (now (reply .exit)) ≡ answer kinds (frameCall (now (bytes .entry))) (now (station .entry)) ⌝ }
+    ensures { λ r. ⌜ r .length ≤ 244 ⌝ }
+    ensures { λ r. ⌜ now (station .exit) ≡ after kinds (frameCall (now (bytes .entry))) (now (station .entry)) ⌝ }
+{
+    let end = record::FRAME_HEAD + codes::wide(bytes[2]);
+    station::frame(
+        station,
+        bytes[1] as u32,
+        &bytes[record::FRAME_HEAD..end],
+        reply,
+    )
+}
