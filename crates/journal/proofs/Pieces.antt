@@ -1,17 +1,18 @@
 -- Text put at a place of a line, one piece after the other.
 use mathlib.Core.Path.{_≡_, refl, sym, ap, _∙_}
-use mathlib.Core.List.{List, [], _∷_, _++_}
-use Prim.Native.Nat.{ℕ, zero, suc, _+_, _-_, _*_, _/_, _%_, _≤_, _<_}
-use native.Mathlib.Nat.{zero-add}
+use mathlib.Core.List.{List, [], _∷_, _++_, append-assoc}
+use Prim.Native.Nat.{ℕ, zero, suc, _+_, _-_, _*_, _/_, _%_, _^_, _≤_, _<_}
+use native.Mathlib.Nat.{zero-add, pow-suc, div-lt-iff-lt-mul}
+use lib.Dec.{lit<}
 use native.Mathlib.Omega.{arith}
 use native.Mathlib.Numerals.{add-one}
-use lib.ListN.{length, getD, take, length-append}
-use lib.Seq.{take-suc}
+use lib.ListN.{length, getD, take, drop, length-append}
+use lib.Seq.{take-suc, take-at, length-take-le}
 use lib.IntN.{ℤ, pos, negsuc}
 use lib.Signed.{mag}
 use borrow.Author.Tests.{lt-ltb, le-ltb}
 use Rattle.codes.specs.Number.{put, bitsOf}
-use Rattle.codes.proofs.Put.{put-append}
+use Rattle.codes.proofs.Put.{put-fits, put-append}
 use Rattle.journal.specs.Text.{digit, decimalIn, decimal, signed, hexByte, hexBytes}
 
 -- the line m is l with bs put at a place, and p is the place after them
@@ -43,6 +44,12 @@ and-then {l} {m} {n} {at} {p} {q} {bs} {cs} a b h =
 pub said : {l m : List ℕ} {at p : ℕ} {bs cs : List ℕ} → Wrote l at bs m p → cs ≡ bs → Wrote l at cs m p
 said w e = rw e w
 
+-- the line up to the place after a text
+pub up-to : {l m : List ℕ} {at p : ℕ} {bs : List ℕ} → Wrote l at bs m p → p ≤ length l → take p m ≡ take at l ++ bs
+up-to {l} {m} {at} {p} {bs} w h =
+    let whole : m ≡ (take at l ++ bs) ++ drop (at + length bs) l = w .same ∙ (put-fits l at bs (omega (arith, w .place)) ∙ sym (append-assoc (take at l) bs (drop (at + length bs) l))) in
+    rw whole (take-at (take at l ++ bs) (drop (at + length bs) l) p (omega (arith, w .place, length-append (take at l) bs, length-take-le at l (omega (arith, w .place)))))
+
 -- one character
 pub char : {l m : List ℕ} {at p x : ℕ} → (m ≡ put l at (x ∷ [])) × (p ≡ at + 1) → Wrote l at (x ∷ []) m p
 char e = record { same = e .0; place = e .1 }
@@ -61,6 +68,12 @@ decimal-low (suc n) x h = rw (lt-ltb x 10 h)
 pub decimal-more : (n x : ℕ) → 0 < n → 10 ≤ x → decimalIn n x ≡ decimalIn (n - 1) (x / 10) ++ (digit (x % 10) ∷ [])
 decimal-more zero x p h = absurd (omega arith)
 decimal-more (suc n) x p h = let e : suc n - 1 ≡ n = omega arith in rw (le-ltb x 10 h, e)
+
+-- digits that a number does not need are not written
+pub decimal-enough : (n m x : ℕ) → n ≤ m → x < 10 ^ suc n → decimalIn m x ≡ decimalIn n x
+decimal-enough zero m x h b = decimal-low m x b ∙ sym (decimal-low 0 x b)
+decimal-enough (suc n) zero x h b = absurd (omega arith)
+decimal-enough (suc n) (suc m) x h b = rw (decimal-enough n m (x / 10) (omega arith) (div-lt-iff-lt-mul (lit< tt) .1 (rw (pow-suc 10 (suc n)) at b)))
 
 -- a signed number by its four bytes
 pub signed-low : (z : ℤ) → mag z < 0x80000000 → bitsOf 4 z < 0x80000000 → signed z ≡ decimal (bitsOf 4 z)

@@ -14,9 +14,9 @@ abbrev pub decimalIn : ℕ → ℕ → List ℕ
 decimalIn zero x = digit (x % 10) ∷ []
 decimalIn (suc n) x = cond (ltb x 10) (digit x ∷ []) (decimalIn n (x / 10) ++ (digit (x % 10) ∷ []))
 
--- ten digits are enough for 32 bits
+-- twenty digits are enough for 64 bits
 unfoldable pub decimal : ℕ → List ℕ
-decimal x = decimalIn 9 x
+decimal x = decimalIn 19 x
 
 -- with its sign where it is below 0
 unfoldable pub signed : ℤ → List ℕ

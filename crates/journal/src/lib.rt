@@ -16,6 +16,7 @@ mod line; // line.rt: the lines
 mod record; // record.rt: which bytes are a record
 mod text; // text.rt: numbers as text, at a place of a line
 
+pub use line::put_spaced_number;
 pub use record::longest_record;
 pub use record::next_length;
 

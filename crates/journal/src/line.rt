@@ -6,8 +6,10 @@ ghost use lib.ListN.{length};
 ghost use Rattle.codes.specs.Number.{put};
 ghost use Rattle.journal.specs.Text.{decimal, signed, hexWord};
 ghost use Rattle.journal.specs.Line.{space, stateName, cycleLine, replyText, frameLine, badLine};
+use super::text::DIGITS_64;
 use super::text::put_byte;
 use super::text::put_decimal;
+use super::text::put_decimal_in;
 use super::text::put_hex_bytes;
 use super::text::put_hex_word;
 use super::text::put_signed;
@@ -15,6 +17,9 @@ use station::Cycled;
 use station::Framed;
 
 const SPACE: u8 = b' ';
+
+// Bytes of a space and of a number of 64 bits.
+const NUMBER: usize = 21;
 
 // What a line begins with: a letter and a number.
 fn put_head(line: &mut [u8], letter: u8, x: u32) -> usize
@@ -118,4 +123,15 @@ pub(crate) fn put_bad(line: &mut [u8]) -> usize
     line[2] = b'd';
     line[3] = b'\n';
     4
+}
+
+// A space and a number, at a place of a line of any kind; nothing where they do not all fit. Answers how many bytes they are.
+pub fn put_spaced_number(line: &mut [u8], at: usize, x: u64) -> usize
+    ensures { λ r. ⌜ now (line .exit) ≡ put (now (line .entry)) at (space ∷ decimal x) ⌝ }
+    ensures { λ r. ⌜ (r ≡ length (space ∷ decimal x)) × (r ≤ 21) ⌝ }
+{
+    let mut piece = [SPACE; NUMBER];
+    let n = put_decimal_in(&mut piece, 1, DIGITS_64, x);
+    codes::put_bytes(line, at, &piece[..n]);
+    n
 }

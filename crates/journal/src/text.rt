@@ -6,8 +6,10 @@ ghost use lib.ListN.{length};
 ghost use Rattle.codes.specs.Number.{put};
 ghost use Rattle.journal.specs.Text.{digit, decimalIn, decimal, signed, hexByte, hexWord, hexBytes};
 
-// The most digits of a number of 32 bits, less one.
-const DIGITS: usize = 9;
+// The most digits of a number of 32 bits, and of 64, less one.
+const DIGITS_32: usize = 9;
+
+pub(crate) const DIGITS_64: usize = 19;
 
 // A digit, below 16.
 fn digit(d: u8) -> u8
@@ -27,7 +29,7 @@ pub(crate) fn put_byte(line: &mut [u8], at: usize, b: u8) -> usize
 }
 
 // At most n + 1 digits of x.
-fn put_decimal_in(line: &mut [u8], at: usize, n: usize, x: u32) -> usize
+pub(crate) fn put_decimal_in(line: &mut [u8], at: usize, n: usize, x: u64) -> usize
     requires { ⌜ at + n < length (now line) ⌝ }
     ensures { λ r. ⌜ now (line .exit) ≡ put (now (line .entry)) at (decimalIn n x) ⌝ }
     ensures { λ r. ⌜ (r ≡ at + length (decimalIn n x)) × (r ≤ at + (n + 1)) ⌝ }
@@ -47,7 +49,7 @@ pub(crate) fn put_decimal(line: &mut [u8], at: usize, x: u32) -> usize
     ensures { λ r. ⌜ now (line .exit) ≡ put (now (line .entry)) at (decimal x) ⌝ }
     ensures { λ r. ⌜ (r ≡ at + length (decimal x)) × (r ≤ at + 10) ⌝ }
 {
-    put_decimal_in(line, at, DIGITS, x)
+    put_decimal_in(line, at, DIGITS_32, x as u64)
 }
 
 pub(crate) fn put_signed(line: &mut [u8], at: usize, v: i32) -> usize
