@@ -13,6 +13,7 @@ pub mod cycle;
 pub mod frame;
 pub mod journal;
 pub mod parameter;
+pub mod record;
 
 #[cfg(test)]
 mod tests;
@@ -23,3 +24,4 @@ pub use cycle::Cycled;
 pub use frame::{Framed, REPLY_MIN};
 pub use journal::replay;
 pub use parameter::{Parameter, Type};
+pub use record::{Journal, Next, Record};
