@@ -21,27 +21,46 @@ impl Cycled {
     }
 }
 
+/// An accepted cycle: its answer, and what it did.
+#[derive(Clone, Copy, Debug, PartialEq, Eq)]
+pub struct Ran {
+    /// The answer.
+    pub cycled: Cycled,
+    /// The state before it.
+    pub from: State,
+    /// The state it ended in.
+    pub to: State,
+    /// Whether it acknowledged a fault situation, that is, step 2 happened.
+    pub acknowledged: bool,
+}
+
 impl Station {
     /// Runs one control cycle of an axis.
     pub fn cycle(&mut self, axis: u32, flags: u32, stw1: u16, nsoll: i16, nist: i16, fault: u16) -> Cycled {
-        let Some((axis, part)) = self.part(axis) else { return Cycled::refused(1) };
+        self.run(axis, flags, stw1, nsoll, nist, fault).map_or_else(Cycled::refused, |ran| ran.cycled)
+    }
+
+    /// The same cycle, with what it did; else the number of its refusal.
+    pub fn run(&mut self, axis: u32, flags: u32, stw1: u16, nsoll: i16, nist: i16, fault: u16) -> Result<Ran, u8> {
+        let (axis, part) = self.part(axis).ok_or(1)?;
         if !well_formed(part, axis) {
-            return Cycled::refused(2);
+            return Err(2);
         }
         if flags > 3 {
-            return Cycled::refused(12);
+            return Err(12);
         }
-        accepted(part, flags, stw1, nsoll, nist, fault)
+        Ok(accepted(part, flags, stw1, nsoll, nist, fault))
     }
 }
 
 /// Steps 1 to 7.
-fn accepted(part: &mut Axis, flags: u32, stw1: u16, nsoll: i16, nist: i16, fault: u16) -> Cycled {
+fn accepted(part: &mut Axis, flags: u32, stw1: u16, nsoll: i16, nist: i16, fault: u16) -> Ran {
     let standstill = flags & 1 != 0;
     let warning = flags & 2 != 0;
     let (word, setpoint) = if bit(stw1, 10) { (stw1, nsoll) } else { (part.last_word, part.last_setpoint) };
 
-    acknowledge(part, word, fault);
+    let from = part.state;
+    let acknowledged = acknowledge(part, word, fault);
     record_fault(part, fault);
     part.state = if part.faulted() { State::S1 } else { next_state(part.state, word, standstill) };
     part.effective = effective_setpoint(part, word, setpoint);
@@ -50,21 +69,25 @@ fn accepted(part: &mut Axis, flags: u32, stw1: u16, nsoll: i16, nist: i16, fault
     part.last_setpoint = setpoint;
     part.actual = nist;
 
-    Cycled { rpm: rpm(part.effective, part.p10111), status: part.status, state: part.state.code(), number: 0 }
+    let rpm = rpm(part.effective, part.p10111);
+    let cycled = Cycled { rpm, status: part.status, state: part.state.code(), number: 0 };
+    Ran { cycled, from, to: part.state, acknowledged }
 }
 
 fn bit(word: u16, number: u32) -> bool {
     (word >> number) & 1 == 1
 }
 
-/// Step 2.
-fn acknowledge(part: &mut Axis, word: u16, fault: u16) {
+/// Step 2; whether it happened.
+fn acknowledge(part: &mut Axis, word: u16, fault: u16) -> bool {
     let rising = bit(word, 7) && !bit(part.last_word, 7);
-    if rising && fault == 0 && part.faulted() {
+    let happens = rising && fault == 0 && part.faulted();
+    if happens {
         part.situations.copy_within(..SITUATIONS - 1, 1);
         part.situations[0] = [0; CODES];
         part.fault_counter = part.fault_counter.wrapping_add(1);
     }
+    happens
 }
 
 /// Step 3.

@@ -1,4 +1,5 @@
-//! An independent twin of the station of document 01 (`01-scope.md`), as `docs/DECISIONS.md` reads it.
+//! An independent twin of the station of document 01 (`01-scope.md`) and of the season report of document 02
+//! (`02-change-requests.md`, R-1), as `docs/DECISIONS.md` reads them.
 //!
 //! It exists to be compared with another implementation, so it is plain: every rule of the paper stands in one
 //! small function, and every field is public for a harness to set and compare.
@@ -14,14 +15,16 @@ pub mod frame;
 pub mod journal;
 pub mod parameter;
 pub mod record;
+pub mod season;
 
 #[cfg(test)]
 mod tests;
 
 pub use axis::{well_formed, Axis, State, Station, Waiting, AXES, BLOCK_MAX, CODES, SITUATIONS};
 pub use block::{parse_request, parse_response, Address, Item, Request, RequestKind, Response, ResponseKind, Values};
-pub use cycle::Cycled;
+pub use cycle::{Cycled, Ran};
 pub use frame::{Framed, REPLY_MIN};
 pub use journal::replay;
 pub use parameter::{Parameter, Type};
 pub use record::{Journal, Next, Record};
+pub use season::{count, report, Counts, Totals, COUNTS};

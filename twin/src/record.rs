@@ -4,7 +4,8 @@ use std::io::{self, BufReader, ErrorKind, Read};
 
 const BUFFER: usize = 1 << 16;
 const CYCLE_BODY: usize = 10;
-const FRAME_MAX: usize = 244;
+/// Bytes that a record has for its frame.
+pub const FRAME_MAX: usize = 244;
 const FRAME_BODY: usize = 2 + FRAME_MAX;
 
 /// A whole record.

@@ -1,21 +1,6 @@
-use super::{hex, request, worked_write, write_frame};
+use super::{cycle, frame, hex, request, worked_journal, worked_write, write_frame, Broken};
 use crate::replay;
 use std::io::{self, Read};
-
-fn cycle(axis: u8, flags: u8, stw1: u16, nsoll: i16, nist: i16, fault: u16) -> Vec<u8> {
-    let mut record = vec![1, axis, flags];
-    for word in [stw1, nsoll as u16, nist as u16, fault] {
-        record.extend(word.to_be_bytes());
-    }
-    record
-}
-
-fn frame(farm: u8, frame: &[u8]) -> Vec<u8> {
-    let mut record = vec![2, farm, frame.len() as u8];
-    record.extend_from_slice(frame);
-    record.resize(1 + 246, 0);
-    record
-}
 
 fn run(journal: &[u8]) -> String {
     let mut output = Vec::new();
@@ -25,16 +10,7 @@ fn run(journal: &[u8]) -> String {
 
 #[test]
 fn the_whole_listing() {
-    let journal = [
-        cycle(1, 0, 0x047E, 0, 0, 0),
-        cycle(1, 0, 0x047F, 0, 0, 0),
-        cycle(1, 0, 0x047F, 0x2000, 0, 0),
-        cycle(1, 0, 0x047D, 0, 0, 0),
-        frame(1, &worked_write()),
-        frame(1, &hex("5E 00 2F F0")),
-        frame(2, &worked_write()),
-    ]
-    .concat();
+    let journal = worked_journal();
     assert_eq!(journal.len(), 4 * 11 + 3 * 247);
     let expected = "\
 c 1 S2 0331 0
@@ -154,12 +130,6 @@ fn a_full_reply() {
 
 #[test]
 fn trouble_with_the_input_is_an_error_after_the_lines() {
-    struct Broken;
-    impl Read for Broken {
-        fn read(&mut self, _: &mut [u8]) -> io::Result<usize> {
-            Err(io::Error::other("broken"))
-        }
-    }
     let journal = cycle(2, 0, 0, 0, 0, 0);
     let mut output = Vec::new();
     assert!(replay(journal.chain(Broken), &mut output).is_err());

@@ -1,4 +1,4 @@
-//! Worked cases of document 01 and of the readings.
+//! Worked cases of document 01, of R-1 of document 02 and of the readings.
 
 mod addresses;
 mod blocks;
@@ -7,8 +7,10 @@ mod frames;
 mod journal;
 mod parts;
 mod random;
+mod season;
 
 use crate::{Framed, Station};
+use std::io::{self, Read};
 
 /// A reply memory that shows which bytes were touched.
 pub const FILL: u8 = 0xA5;
@@ -81,4 +83,44 @@ pub fn fetch(station: &mut Station, farm: u32) -> Vec<u8> {
 /// The worked write frame of marks 1000 and 3001.
 pub fn worked_write() -> Vec<u8> {
     hex("5F 00 2F 10 07 02 01 01 10 02 75 31 00 00 42 02 03 E8 0B B9")
+}
+
+/// A record of kind 1.
+pub fn cycle(axis: u8, flags: u8, stw1: u16, nsoll: i16, nist: i16, fault: u16) -> Vec<u8> {
+    let mut record = vec![1, axis, flags];
+    for word in [stw1, nsoll as u16, nist as u16, fault] {
+        record.extend(word.to_be_bytes());
+    }
+    record
+}
+
+/// A record of kind 2.
+pub fn frame(farm: u8, frame: &[u8]) -> Vec<u8> {
+    let mut record = vec![2, farm, frame.len() as u8];
+    record.extend_from_slice(frame);
+    record.resize(1 + 246, 0);
+    record
+}
+
+/// The worked journal of document 01.
+pub fn worked_journal() -> Vec<u8> {
+    [
+        cycle(1, 0, 0x047E, 0, 0, 0),
+        cycle(1, 0, 0x047F, 0, 0, 0),
+        cycle(1, 0, 0x047F, 0x2000, 0, 0),
+        cycle(1, 0, 0x047D, 0, 0, 0),
+        frame(1, &worked_write()),
+        frame(1, &hex("5E 00 2F F0")),
+        frame(2, &worked_write()),
+    ]
+    .concat()
+}
+
+/// An input in trouble.
+pub struct Broken;
+
+impl Read for Broken {
+    fn read(&mut self, _: &mut [u8]) -> io::Result<usize> {
+        Err(io::Error::other("broken"))
+    }
 }

@@ -1,7 +1,12 @@
-//! Random runs: the station stays well-formed, refusals change nothing, other parts are untouched.
+//! Random runs: the station stays well-formed, refusals change nothing, other parts are untouched; the season report is
+//! what the replay's lines tell.
 
-use super::FILL;
-use crate::{parse_request, parse_response, well_formed, ResponseKind, Station};
+use super::{cycle, frame, FILL};
+use crate::record::FRAME_MAX;
+use crate::{
+    parse_request, parse_response, replay, report, well_formed, Counts, ResponseKind, State, Station, Totals, AXES,
+    COUNTS,
+};
 
 /// A small generator of its own (xorshift64*).
 struct Random(u64);
@@ -99,6 +104,12 @@ fn random_frames() {
     assert!([0, 7, 8, 9, 10, 11].iter().all(|number| seen[*number] > 20), "{seen:?}");
 }
 
+/// A control word, and seldom a fault code.
+fn random_word(random: &mut Random) -> (u16, u16) {
+    let word = random.pick(&[0x047E, 0x047F, 0x047F, 0x047F, 0x04FF, 0x0477, 0x047B]) ^ (1 << random.below(30)) as u16;
+    (word, if random.one_in(30) { random.below(12) as u16 } else { 0 })
+}
+
 #[test]
 fn random_cycles() {
     let mut random = Random(0x0FED_CBA9_8765_4321);
@@ -106,9 +117,7 @@ fn random_cycles() {
     let mut states = [0u32; 53];
     for _ in 0..200_000 {
         let axis = 1 + random.below(16) as u32;
-        let word =
-            random.pick(&[0x047E, 0x047F, 0x047F, 0x047F, 0x04FF, 0x0477, 0x047B]) ^ (1 << random.below(30)) as u16;
-        let fault = if random.one_in(30) { random.below(12) as u16 } else { 0 };
+        let (word, fault) = random_word(&mut random);
         let flags = random.below(4) as u32;
         let cycled = station.cycle(axis, flags, word, random.next() as i16, random.next() as i16, fault);
         let part = &station.axes[axis as usize - 1];
@@ -119,4 +128,69 @@ fn random_cycles() {
         states[usize::from(cycled.state)] += 1;
     }
     assert!([1, 2, 3, 4, 51, 52].iter().all(|state| states[*state] > 100), "{states:?}");
+}
+
+fn random_record(random: &mut Random) -> Vec<u8> {
+    let number = random.below(18) as u8;
+    if random.one_in(3) {
+        let mut bytes = random_frame(random, number);
+        bytes.truncate(FRAME_MAX);
+        return frame(number, &bytes);
+    }
+    let (word, fault) = random_word(random);
+    cycle(number, random.below(5) as u8, word, random.next() as i16, random.next() as i16, fault)
+}
+
+/// What the replay's line of an axis tells: its state, and by bit 3 of its status whether a fault stands.
+struct Seen {
+    state: String,
+    faulted: bool,
+}
+
+/// Adds what a cycle's line tells; a fault goes only by being acknowledged.
+fn tell_cycle(counts: &mut Counts, seen: &mut Seen, state: &str, status: &str) {
+    let faulted = u16::from_str_radix(status, 16).unwrap() & 8 != 0;
+    let ended = State::ALL.iter().position(|known| state == format!("{known:?}")).unwrap();
+    counts[ended] += 1;
+    counts[6] += u64::from(state == "S4" && seen.state != "S4");
+    counts[7] += u64::from(seen.faulted && !faulted);
+    *seen = Seen { state: state.to_string(), faulted };
+}
+
+/// The totals as the replay's lines tell them.
+fn told(lines: &str) -> Totals {
+    let mut totals = [[0; COUNTS]; AXES];
+    let mut axes: Vec<Seen> = (0..AXES).map(|_| Seen { state: "S1".to_string(), faulted: false }).collect();
+    for line in lines.lines() {
+        let words: Vec<&str> = line.split(' ').collect();
+        let owner = words[1].parse::<usize>().unwrap().wrapping_sub(1);
+        match words[..] {
+            ["c", _, state, status, _] => tell_cycle(&mut totals[owner], &mut axes[owner], state, status),
+            ["f", _, stored, reply] if owner < AXES => {
+                totals[owner][8] += u64::from(reply == "DF80B600");
+                totals[owner][9] += stored.parse::<u64>().unwrap();
+            }
+            _ => {}
+        }
+    }
+    totals
+}
+
+#[test]
+fn random_seasons() {
+    let mut random = Random(0x5EA5_0217_CA11_ED17);
+    let journal: Vec<u8> = (0..30_000).flat_map(|_| random_record(&mut random)).collect();
+    let (mut lines, mut season) = (Vec::new(), Vec::new());
+    replay(&journal[..], &mut lines).unwrap();
+    report(&journal[..], &mut season).unwrap();
+    let totals = told(&String::from_utf8(lines).unwrap());
+    assert!(totals.iter().flatten().all(|count| *count > 0), "{totals:?}");
+    let season = String::from_utf8(season).unwrap();
+    let reported: Vec<Vec<&str>> = season.lines().map(|line| line.split(' ').collect()).collect();
+    assert_eq!(reported.len(), AXES);
+    for (farm, words) in (1..).zip(reported) {
+        let counts = totals[farm - 1].map(|count| count.to_string());
+        assert_eq!(words[..2], ["r", &farm.to_string()]);
+        assert_eq!(words[2..], counts);
+    }
 }
