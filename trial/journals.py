@@ -1,7 +1,8 @@
 #!/usr/bin/env python3
-"""Plays journals with their expected output through a replay program: journals.py FILE PROGRAM [ARGUMENT...].
+"""Plays journals with their expected output through a program: journals.py [--report] FILE PROGRAM [ARGUMENT...].
 
-Each case's journal goes to the program's standard input; its whole standard output must be the case's lines.
+Each case's journal goes to the program's standard input; its whole standard output must be the case's lines. With --report they
+are those of a season report, where a farm without a line has ten zeros.
 Ends with "N journals, M failed", status 1 if any failed or the file has no case."""
 import subprocess
 import sys
@@ -36,25 +37,37 @@ def cases(text):
     for line in lines:
         key, _, rest = line.partition(' ')
         if key == 'case':
-            case = {'name': rest, 'journal': b'', 'out': ''}
+            case = {'name': rest, 'journal': b'', 'out': []}
             yield case
         elif key == 'journal':
             case['journal'] += bytes_of(rest.split())
         elif key == 'out':
-            case['out'] += expand(rest) + '\n'
+            case['out'].append(expand(rest))
         elif key not in ('', 'source', 'note'):
             sys.exit(f'unknown key: {line}')
 
 
+def report(lines):
+    """The lines of all 16 farms, then the others; a line out of its order is among these."""
+    others = list(lines)
+    for farm in range(1, 17):
+        given = others and others[0].startswith(f'r {farm} ')
+        yield others.pop(0) if given else f'r {farm}' + 10 * ' 0'
+    yield from others
+
+
 def main():
-    path, program = sys.argv[1], sys.argv[2:]
+    reports = sys.argv[1] == '--report'
+    path, *program = sys.argv[1 + reports:]
     every = list(cases(open(path, encoding='utf-8').read()))
     failed = 0
     for case in every:
+        lines = report(case['out']) if reports else case['out']
+        expected = ''.join(line + '\n' for line in lines)
         got = subprocess.run(program, input=case['journal'], stdout=subprocess.PIPE, check=False).stdout.decode()
-        if got != case['out']:
+        if got != expected:
             failed += 1
-            print(f"case {case['name']}: expected\n{case['out']}got\n{got}")
+            print(f"case {case['name']}: expected\n{expected}got\n{got}")
     print(f'{len(every)} journals, {failed} failed')
     sys.exit(1 if failed or not every else 0)
 
