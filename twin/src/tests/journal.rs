@@ -63,8 +63,11 @@ fn refused_cycles_and_empty_replies() {
 fn bad_records_end_the_run() {
     let good = cycle(2, 0, 0, 0, 0, 0);
     let line = "c 2 S1 0340 0\n";
+    let [cycle_body, frame_body] = [&good[1..], &frame(1, &worked_write())[1..]];
     for kind in (0..=255u8).filter(|kind| *kind != 1 && *kind != 2) {
-        assert_eq!(run(&[good.clone(), vec![kind], good.clone()].concat()), format!("{line}bad\n"));
+        for body in [cycle_body, frame_body] {
+            assert_eq!(run(&[&good[..], &[kind], body, &good].concat()), format!("{line}bad\n"), "kind {kind}");
+        }
     }
     for length in 1..11 {
         assert_eq!(run(&[&good[..], &good[..length]].concat()), format!("{line}bad\n"));

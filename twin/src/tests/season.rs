@@ -76,13 +76,17 @@ fn a_bad_record_ends_with_the_totals_so_far() {
     let so_far = totals(&[(1, [1, 1, 1, 1, 0, 0, 1, 0, 0, 1]), (2, [0, 0, 0, 0, 0, 0, 0, 0, 1, 0])]);
     let past_the_frame = [frame(1, &[])[..246].to_vec(), vec![1]].concat();
     let cut = [cycle(1, 0, 0, 0, 0, 0)[..10].to_vec(), frame(1, &[])[..246].to_vec()];
-    let bad = [vec![0], vec![3], vec![4], past_the_frame].into_iter().chain(cut);
+    let bad = [vec![0], past_the_frame].into_iter().chain(cut);
     for bad in bad {
         assert_eq!(run(&bad), text(&NONE, "bad\n"), "{bad:02X?}");
         assert_eq!(run(&[&before[..], &bad].concat()), text(&so_far, "bad\n"), "{bad:02X?}");
     }
-    for kind in (0..=255u8).filter(|kind| *kind != 1 && *kind != 2) {
-        assert_eq!(run(&[&before[..], &[kind], &after].concat()), text(&so_far, "bad\n"), "nothing is read after it");
+    let [cycle_body, frame_body] = [&after[1..11], &frame(1, &worked_write())[1..]];
+    for kind in [0, 3, 4, 255] {
+        for body in [cycle_body, frame_body] {
+            let journal = [&before[..], &[kind], body, &after].concat();
+            assert_eq!(run(&journal), text(&so_far, "bad\n"), "kind {kind}, and nothing is read after it");
+        }
     }
 }
 
