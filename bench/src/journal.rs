@@ -1,31 +1,49 @@
-//! The row of the journal: the two replays as programs, each record a line. Plain C has none.
+//! The rows of a journal: programs that play it, ours and the twin's, by what a record costs them. Plain C has none.
 
 use crate::outside::Started;
 use crate::table::{least, line, Costs};
 use std::error::Error;
+use std::fs::File;
 use std::io;
+use twin::{Journal, Next};
 
 /// Runs of each program; the best of them counts.
 const ROUNDS: usize = 40;
 /// No record: what is left is the start of the program, which is taken off.
 const EMPTY: &str = "/dev/null";
 
-/// Measures `replay` and the twin's on one journal and prints the line.
-pub fn measure(emulator: &str, counter: &str, journal: &str, replay: &str, twin: &str) -> Result<(), Box<dyn Error>> {
-    let both = |by: &str| [Started::new(by, replay, &["-"]), Started::new(by, twin, &[])];
-    let [ours, twins] = both(emulator);
-    let written = ours.output(journal)?;
-    if written != twins.output(journal)? {
-        return Err("replay and the twin's replay differ".into());
+/// What is done with a journal, and the two programs that do it.
+pub struct Job<'a> {
+    pub done: &'a str,
+    pub ours: &'a str,
+    pub twin: &'a str,
+}
+
+/// Measures both programs on one journal and prints the line.
+pub fn measure(emulator: &str, counter: &str, journal: &str, job: &Job) -> Result<(), Box<dyn Error>> {
+    let both = |by: &str| [Started::new(by, job.ours, &["-"]), Started::new(by, job.twin, &[])];
+    let [ours, twin] = both(emulator);
+    if ours.output(journal)? != twin.output(journal)? {
+        return Err(format!("{} and {} differ", job.ours, job.twin).into());
     }
-    let records = written.iter().filter(|byte| **byte == b'\n').count() as f64;
-    let times = timed(&ours, &twins, journal)?.map(|time| time / records);
+    let records = records(journal)? as f64;
+    let times = timed(&ours, &twin, journal)?.map(|time| time / records);
     let counts = match counter {
         "" => [None; 2],
         _ => counted(&both(counter), journal)?.map(|count| Some(count / records)),
     };
-    line(&format!("journal of {records} records"), row(times.map(Some)), row(counts));
+    line(&format!("journal of {records} records, {}", job.done), row(times.map(Some)), row(counts));
     Ok(())
+}
+
+/// Whole records of a journal.
+fn records(journal: &str) -> io::Result<usize> {
+    let mut journal = Journal::new(File::open(journal)?);
+    let mut records = 0;
+    while let Next::Record(_) = journal.next_record()? {
+        records += 1;
+    }
+    Ok(records)
 }
 
 fn row([ours, twin]: [Option<f64>; 2]) -> Costs {

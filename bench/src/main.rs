@@ -3,11 +3,11 @@
 //! Before a row is timed, the three must give the same answers. Then they take turns, batch by batch, and the best of their
 //! rounds counts. `bench/run` builds and starts this:
 //!
-//!     bench EMULATOR COUNTER JOURNAL REPLAY TWIN-REPLAY
+//!     bench EMULATOR COUNTER JOURNAL REPLAY TWIN-REPLAY REPORT TWIN-REPORT
 //!
 //! The first two are the words that start a program of this processor, as it is and with its instructions counted; either may be
-//! empty. REPLAY and TWIN-REPLAY are programs that play the file JOURNAL. `bench pass ROW SIDE PASSES` makes one side's calls of a
-//! row, to be counted.
+//! empty. The last four are programs that play the file JOURNAL, two for its lines and two for its season report.
+//! `bench pass ROW SIDE PASSES` makes one side's calls of a row, to be counted.
 
 #![deny(warnings)]
 
@@ -19,6 +19,7 @@ mod rows;
 mod sides;
 mod table;
 
+use journal::Job;
 use std::error::Error;
 use std::process::ExitCode;
 
@@ -27,8 +28,12 @@ fn main() -> ExitCode {
     let words: Vec<&str> = arguments.iter().map(String::as_str).collect();
     let done = match words[..] {
         ["pass", row, side, passes] => calls::pass(row, side, passes),
-        [emulator, counter, journal, replay, twin] => bench(emulator, counter, journal, replay, twin),
-        _ => Err("usage: bench EMULATOR COUNTER JOURNAL REPLAY TWIN-REPLAY".into()),
+        [emulator, counter, journal, replay, twin_replay, report, twin_report] => {
+            let replay = Job { done: "replayed", ours: replay, twin: twin_replay };
+            let report = Job { done: "reported", ours: report, twin: twin_report };
+            bench(emulator, counter, journal, &[replay, report])
+        }
+        _ => Err("usage: bench EMULATOR COUNTER JOURNAL REPLAY TWIN-REPLAY REPORT TWIN-REPORT".into()),
     };
     match done {
         Ok(()) => ExitCode::SUCCESS,
@@ -39,7 +44,7 @@ fn main() -> ExitCode {
     }
 }
 
-fn bench(emulator: &str, counter: &str, journal: &str, replay: &str, twin: &str) -> Result<(), Box<dyn Error>> {
+fn bench(emulator: &str, counter: &str, journal: &str, jobs: &[Job]) -> Result<(), Box<dyn Error>> {
     println!(
         "A cycle, a write and its fetch, a frame, a record: the best of many rounds, in which the sides take turns."
     );
@@ -48,5 +53,5 @@ fn bench(emulator: &str, counter: &str, journal: &str, replay: &str, twin: &str)
     }
     table::head();
     calls::measure(counter)?;
-    journal::measure(emulator, counter, journal, replay, twin)
+    jobs.iter().try_for_each(|job| journal::measure(emulator, counter, journal, job))
 }
