@@ -1,4 +1,4 @@
-//! Writes a journal of made-up records to standard output, for two replay programs to be given alike.
+//! Writes a journal of made-up records to standard output, for two replays or two season reports to be given alike.
 
 #![forbid(unsafe_code)]
 #![deny(warnings)]
