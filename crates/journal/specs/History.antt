@@ -4,7 +4,6 @@
 use mathlib.Core.Bool.{Bool, cond}
 use mathlib.Core.List.{List, [], _∷_, _++_}
 use Prim.Native.Nat.{ℕ, zero, suc}
-use lib.Dec.{eqb}
 use lib.ListN.{length}
 use Rattle.station.specs.Parts.{farms, freshParts}
 use Rattle.station.specs.Calls.{Call, Answer, toCycle, toFrame, owner, kinds}
@@ -52,7 +51,8 @@ lines (d ∷ ds) = lineOf (d .call) (d .answer) ++ lines ds
 
 -- "Anything else, or a cut body, writes `bad` and ends"
 abbrev pub endLine : List ℕ → List ℕ
-endLine left = cond (eqb (length left) 0) [] badLine
+endLine [] = []
+endLine (b ∷ left) = badLine
 
 -- the output of a replay of a journal, from the station s on
 unfoldable pub replayFrom : List ℕ → List ℕ → List ℕ

@@ -1,0 +1,129 @@
+-- The laws of a whole journal: how it is parted, and that the records played one after the other are its replay.
+use mathlib.Core.Path.{_≡_, refl, sym, ap, _∙_}
+use mathlib.Core.Bool.{Bool, true, false, cond, true≢false}
+use mathlib.Core.List.{List, [], _∷_, _++_, append-assoc}
+use Prim.Native.Nat.{ℕ, zero, suc, _+_, _≤_}
+use native.Mathlib.Omega.{arith}
+use lib.Dec.{eqb, lit≤}
+use lib.ListN.{length, getD, take, drop, length-append, length-drop, take-append-drop, List·getD-append}
+use lib.Seq.{take-append-le, take-at, drop-at}
+use borrow.Table.Steps.{cases}
+use Rattle.codes.specs.Code.{AllOf}
+use Rattle.station.specs.Calls.{kinds}
+use Rattle.station.specs.Isolation.{answer, after}
+use Rattle.journal.specs.Line.{recordLength, longestRecord, nextRecord, pastRecord, isRecord, callOf, lineOf, recordLine, recordAfter, badLine}
+use Rattle.journal.specs.History.{Parted, partedIn, parted, history, lines, endLine, replayFrom}
+use Rattle.journal.specs.Laws.{joined, PartedAsWritten, Written, EveryJournal, EnoughBytes, piecesIn, pieces, played, PlaysWhole}
+use Rattle.journal.proofs.Records.{record-whole}
+
+-- a record has a byte at least, and no more than the longest
+pub record-sizes : (kind : ℕ) → (1 ≤ recordLength kind) × (recordLength kind ≤ longestRecord)
+record-sizes kind =
+    cases (eqb kind 1) (λ e. rw e (lit≤ tt, lit≤ tt))
+    (λ e. cases (eqb kind 2) (λ f. rw (e, f) (lit≤ tt, lit≤ tt)) (λ f. rw (e, f) (lit≤ tt, lit≤ tt)))
+
+record-some : (r : List ℕ) → isRecord r ≡ true → 1 ≤ length r
+record-some r is = omega (arith, record-whole r is, record-sizes (getD r 0 0) .0)
+
+-- what is left grows shorter
+pub shorter : (bs : List ℕ) (n : ℕ) → length bs ≤ suc n → length (pastRecord bs) ≤ n
+unfolding pastRecord
+shorter bs n h = omega (arith, length-drop (recordLength (getD bs 0 0)) bs, record-sizes (getD bs 0 0) .0)
+
+-- a record at the start of bytes is the next one
+module _ (r bs : List ℕ) (is : isRecord r ≡ true) where
+  kind : getD (r ++ bs) 0 0 ≡ getD r 0 0
+  kind = List·getD-append r bs 0 0 (record-some r is)
+
+  size : length r ≡ recordLength (getD (r ++ bs) 0 0)
+  size = sym (ap recordLength kind ∙ record-whole r is)
+
+  next-is : nextRecord (r ++ bs) ≡ r
+  unfolding nextRecord
+  next-is = take-at r bs _ size
+
+  past-is : pastRecord (r ++ bs) ≡ bs
+  unfolding pastRecord
+  past-is = drop-at r bs _ size
+
+none : isRecord (nextRecord []) ≡ false
+unfolding nextRecord isRecord
+none = refl
+
+-- enough to part all of it
+written-in : (n : ℕ) (rs : List (List ℕ)) (left : List ℕ) → AllOf (λ r. isRecord r ≡ true) rs → isRecord (nextRecord left) ≡ false
+    → length (joined rs ++ left) ≤ n → partedIn n (joined rs ++ left) ≡ record { records = rs; left = left }
+written-in zero [] left are stops h = refl
+written-in (suc n) [] left are stops h = rw stops
+written-in zero (r ∷ rs) left are stops h = absurd (omega (arith, length-append (r ++ joined rs) left, length-append r (joined rs), record-some r (are .0)))
+written-in (suc n) (r ∷ rs) left are stops h =
+    let rest = joined rs ++ left in
+    let short : length rest ≤ n =
+    omega (arith, length-append (r ++ joined rs) left, length-append r (joined rs), length-append (joined rs) left, record-some r (are .0)) in
+    rw (append-assoc r (joined rs) left, next-is r rest (are .0), past-is r rest (are .0), are .0, written-in n rs left (are .1) stops short)
+
+pub parted-as-written : PartedAsWritten
+unfolding parted
+parted-as-written rs left are stops = written-in (length (joined rs ++ left)) rs left are stops (omega arith)
+
+-- parted by at most n records, each of its own
+record WrittenIn (n : ℕ) (bs : List ℕ) : Type 0 where
+  bytes : joined (partedIn n bs .records) ++ partedIn n bs .left ≡ bs
+  each : AllOf (λ r. isRecord r ≡ true) (partedIn n bs .records)
+  stops : length bs ≤ n → isRecord (nextRecord (partedIn n bs .left)) ≡ false
+
+with-next : (bs : List ℕ) → nextRecord bs ++ pastRecord bs ≡ bs
+unfolding nextRecord pastRecord
+with-next bs = take-append-drop (recordLength (getD bs 0 0)) bs
+
+more-in : (n : ℕ) (bs : List ℕ) → isRecord (nextRecord bs) ≡ true → WrittenIn n (pastRecord bs) → WrittenIn (suc n) bs
+more-in n bs is rest =
+    record {
+      bytes = rw is (append-assoc (nextRecord bs) _ _ ∙ (ap (λ (l : List ℕ). nextRecord bs ++ l) (rest .bytes) ∙ with-next bs));
+      each = rw is (is, rest .each);
+      stops = λ h. rw is (rest .stops (shorter bs n h));
+    }
+
+every-in : (n : ℕ) (bs : List ℕ) → WrittenIn n bs
+every-in zero [] = record { bytes = refl; each = tt; stops = λ h. none }
+every-in zero (b ∷ bs) = record { bytes = refl; each = tt; stops = λ h. absurd (omega arith) }
+every-in (suc n) bs =
+    cases (isRecord (nextRecord bs)) (λ is. more-in n bs is (every-in n (pastRecord bs)))
+    (λ isnt. record { bytes = rw isnt; each = rw isnt tt; stops = λ h. rw (isnt, isnt) })
+
+pub every-journal : EveryJournal
+unfolding parted
+every-journal bs = let w = every-in (length bs) bs in record { bytes = w .bytes; each = w .each; stops = w .stops (omega arith) }
+
+pub enough-bytes : EnoughBytes
+unfolding nextRecord
+enough-bytes bs more long =
+    ap (λ (k : ℕ). take (recordLength k) (bs ++ more)) (List·getD-append bs more 0 0 (omega arith))
+    ∙ take-append-le (recordLength (getD bs 0 0)) bs more (omega (arith, record-sizes (getD bs 0 0) .1))
+
+-- pieces played, by at most n of them
+abbrev Plays : ℕ → List ℕ → List ℕ → Type 0
+Plays n bs s = played (piecesIn n bs) s ≡ lines (history (partedIn n bs .records) s) ++ endLine (partedIn n bs .left)
+
+-- a record, and the pieces past it
+play-record : (n b : ℕ) (bs s : List ℕ) → let r = nextRecord (b ∷ bs) in isRecord r ≡ true
+    → Plays n (pastRecord (b ∷ bs)) (after kinds (callOf r) s) → Plays (suc n) (b ∷ bs) s
+unfolding recordLine recordAfter played history
+play-record n b bs s is rest = rw (is, rest) (sym (append-assoc (lineOf (callOf (nextRecord (b ∷ bs))) (answer kinds (callOf (nextRecord (b ∷ bs))) s)) _ _))
+
+play-bad : (n b : ℕ) (bs s : List ℕ) → isRecord (nextRecord (b ∷ bs)) ≡ false → Plays (suc n) (b ∷ bs) s
+unfolding recordLine played history
+play-bad n b bs s isnt = rw isnt
+
+plays-in : (n : ℕ) (bs s : List ℕ) → length bs ≤ n → Plays n bs s
+unfolding played history
+plays-in zero [] s h = refl
+plays-in zero (b ∷ bs) s h = absurd (omega arith)
+plays-in (suc n) [] s h = rw none
+plays-in (suc n) (b ∷ bs) s h =
+    let r = nextRecord (b ∷ bs) in
+    cases (isRecord r) (λ is. play-record n b bs s is (plays-in n (pastRecord (b ∷ bs)) (after kinds (callOf r) s) (shorter (b ∷ bs) n h))) (play-bad n b bs s)
+
+pub plays-whole : PlaysWhole
+unfolding replayFrom parted pieces
+plays-whole bs s = plays-in (length bs) bs s (omega arith)

@@ -1,0 +1,51 @@
+-- What callers may cite of a journal in place of its text: from document 01, "Journal program". Each is a statement here and a proof in proofs/.
+use mathlib.Core.Path.{_≡_}
+use mathlib.Core.Bool.{true, false, cond}
+use mathlib.Core.List.{List, [], _∷_, _++_}
+use Prim.Native.Nat.{ℕ, zero, suc, _≤_}
+use lib.ListN.{length}
+use Rattle.codes.specs.Code.{AllOf}
+use Rattle.journal.specs.Line.{longestRecord, nextRecord, pastRecord, isRecord, recordLine, recordAfter}
+use Rattle.journal.specs.History.{parted, replayFrom}
+
+-- records one after the other
+abbrev pub joined : List (List ℕ) → List ℕ
+joined [] = []
+joined (r ∷ rs) = r ++ joined rs
+
+-- whatever records a journal is written from, it is parted into them, where what follows them begins with none
+abbrev pub PartedAsWritten : Type 0
+PartedAsWritten =
+    (rs : List (List ℕ)) (left : List ℕ) → AllOf (λ r. isRecord r ≡ true) rs → isRecord (nextRecord left) ≡ false
+    → parted (joined rs ++ left) ≡ record { records = rs; left = left }
+
+-- and every journal is written so
+pub record Written (bs : List ℕ) : Type 0 where
+  pub bytes : joined (parted bs .records) ++ parted bs .left ≡ bs
+  pub each : AllOf (λ r. isRecord r ≡ true) (parted bs .records)
+  pub stops : isRecord (nextRecord (parted bs .left)) ≡ false
+
+abbrev pub EveryJournal : Type 0
+EveryJournal = (bs : List ℕ) → Written bs
+
+-- A program reads a journal by the piece. As many bytes as the longest record has are enough to tell the next one;
+abbrev pub EnoughBytes : Type 0
+EnoughBytes = (bs more : List ℕ) → longestRecord ≤ length bs → nextRecord (bs ++ more) ≡ nextRecord bs
+
+-- the pieces are the next record of what is left, again and again, to the end;
+abbrev pub piecesIn : ℕ → List ℕ → List (List ℕ)
+piecesIn zero bs = []
+piecesIn (suc n) [] = []
+piecesIn (suc n) (b ∷ bs) = nextRecord (b ∷ bs) ∷ piecesIn n (pastRecord (b ∷ bs))
+
+unfoldable pub pieces : List ℕ → List (List ℕ)
+pieces bs = piecesIn (length bs) bs
+
+-- what `play` writes of them one after the other, up to the first that is bad,
+unfoldable pub played : List (List ℕ) → List ℕ → List ℕ
+played [] s = []
+played (r ∷ rs) s = recordLine r s ++ cond (isRecord r) (played rs (recordAfter r s)) []
+
+-- is the output of the whole journal
+abbrev pub PlaysWhole : Type 0
+PlaysWhole = (bs s : List ℕ) → played (pieces bs) s ≡ replayFrom bs s
