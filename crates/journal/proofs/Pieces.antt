@@ -1,6 +1,6 @@
 -- Text put at a place of a line, one piece after the other.
 use mathlib.Core.Path.{_≡_, refl, sym, ap, _∙_}
-use mathlib.Core.List.{List, [], _∷_, _++_, append-assoc}
+use mathlib.Core.List.{List, [], _∷_, _++_, append-assoc, append-nil}
 use Prim.Native.Nat.{ℕ, zero, suc, _+_, _-_, _*_, _/_, _%_, _^_, _≤_, _<_}
 use native.Mathlib.Nat.{zero-add, pow-suc, div-lt-iff-lt-mul}
 use lib.Dec.{lit<}
@@ -13,7 +13,7 @@ use lib.Signed.{mag}
 use borrow.Author.Tests.{lt-ltb, le-ltb}
 use Rattle.codes.specs.Number.{put, bitsOf}
 use Rattle.codes.proofs.Put.{put-fits, put-append}
-use Rattle.journal.specs.Text.{digit, decimalIn, decimal, signed, hexByte, hexBytes}
+use Rattle.journal.specs.Text.{digit, decimalIn, decimal, signed, hexBytes}
 
 -- the line m is l with bs put at a place, and p is the place after them
 pub record Wrote (l : List ℕ) (at : ℕ) (bs m : List ℕ) (p : ℕ) : Type 0 where
@@ -33,6 +33,10 @@ wrote-first {bs = bs} e = record { same = e .0; place = e .1 .0 ∙ sym (zero-ad
 pub promised-first : {l m : List ℕ} {p k : ℕ} {bs : List ℕ} → Wrote l 0 bs m p → p ≤ k → (m ≡ put l 0 bs) × ((p ≡ length bs) × (p ≤ k))
 promised-first {bs = bs} w h = (w .same, (w .place ∙ zero-add (length bs), h))
 
+-- the way that a promise says it which answers how many bytes a text has
+pub wrote-many : {l m : List ℕ} {at n : ℕ} {bs : List ℕ} → m ≡ put l at bs → n ≡ length bs → Wrote l at bs m (at + n)
+wrote-many {at = at} e h = record { same = e; place = ap (λ (k : ℕ). at + k) h }
+
 pub and-then : {l m n : List ℕ} {at p q : ℕ} {bs cs : List ℕ} → Wrote l at bs m p → Wrote m p cs n q → q ≤ length l → Wrote l at (bs ++ cs) n q
 and-then {l} {m} {n} {at} {p} {q} {bs} {cs} a b h =
     record {
@@ -49,6 +53,10 @@ pub up-to : {l m : List ℕ} {at p : ℕ} {bs : List ℕ} → Wrote l at bs m p 
 up-to {l} {m} {at} {p} {bs} w h =
     let whole : m ≡ (take at l ++ bs) ++ drop (at + length bs) l = w .same ∙ (put-fits l at bs (omega (arith, w .place)) ∙ sym (append-assoc (take at l) bs (drop (at + length bs) l))) in
     rw whole (take-at (take at l ++ bs) (drop (at + length bs) l) p (omega (arith, w .place, length-append (take at l) bs, length-take-le at l (omega (arith, w .place)))))
+
+-- a text at the start of a line, and what is left of the line
+pub from-start : {l m : List ℕ} {p : ℕ} {bs : List ℕ} → Wrote l 0 bs m p → p ≤ length l → m ≡ bs ++ drop p l
+from-start {l} {m} {p} {bs} w h = w .same ∙ (put-fits l 0 bs (omega (arith, w .place)) ∙ ap (λ (k : ℕ). bs ++ drop k l) (sym (w .place)))
 
 -- one character
 pub char : {l m : List ℕ} {at p x : ℕ} → (m ≡ put l at (x ∷ [])) × (p ≡ at + 1) → Wrote l at (x ∷ []) m p
@@ -86,14 +94,15 @@ unfolding signed
 signed-high (pos k) w h = absurd (omega arith)
 signed-high (negsuc k) w h = let e : suc k ≡ 0xFFFFFFFF - (0x100000000 - suc k) + 1 = omega arith in ap (λ (n : ℕ). 0x2D ∷ decimal n) e
 
-pub hex-append : (bs cs : List ℕ) → hexBytes (bs ++ cs) ≡ hexBytes bs ++ hexBytes cs
-hex-append [] cs = refl
-hex-append (b ∷ bs) cs = rw (hex-append bs cs)
-
 pub hex-length : (bs : List ℕ) → length (hexBytes bs) ≡ 2 * length bs
 hex-length [] = refl
 hex-length (b ∷ bs) = omega (arith, hex-length bs)
 
--- one more byte
-pub hex-more : (bs : List ℕ) (i : ℕ) → i < length bs → hexBytes (take (i + 1) bs) ≡ hexBytes (take i bs) ++ hexByte (getD bs i 0)
-hex-more bs i h = rw (add-one i, take-suc bs i 0 h, hex-append (take i bs) (getD bs i 0 ∷ []))
+-- texts one after the other: what each number of a list writes
+module _ (each : ℕ → List ℕ) (all : List ℕ → List ℕ) (none : all [] ≡ []) (next : (x : ℕ) (xs : List ℕ) → all (x ∷ xs) ≡ each x ++ all xs) where
+  all-append : (xs ys : List ℕ) → all (xs ++ ys) ≡ all xs ++ all ys
+  all-append [] ys = rw none
+  all-append (x ∷ xs) ys = rw (next x (xs ++ ys), all-append xs ys, next x xs, append-assoc)
+
+  pub one-more : (xs : List ℕ) (i : ℕ) → i < length xs → all (take (i + 1) xs) ≡ all (take i xs) ++ each (getD xs i 0)
+  one-more xs i h = rw (add-one i, take-suc xs i 0 h, all-append (take i xs) (getD xs i 0 ∷ []), next (getD xs i 0) [], none, append-nil)

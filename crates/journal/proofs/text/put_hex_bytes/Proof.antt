@@ -1,5 +1,5 @@
 -- The bytes passed are put in hex.
-use Rattle.journal.proofs.Pieces.{Wrote, and-then, said, hex-more, hex-length}
+use Rattle.journal.proofs.Pieces.{Wrote, and-then, said, hex-length, one-more}
 use Rattle.codes.proofs.Put.{put-none}
 use lib.Seq.{take-all}
 use lib.ListN.{length, getD, take}
@@ -44,7 +44,7 @@ loop-again c =
       omega arith,
       omega arith,
       omega arith,
-      said (and-then (l .inv .3) byte (omega arith)) (hex-more (now (a .bytes)) (l .i) (omega arith)),
+      said (and-then (l .inv .3) byte (omega arith)) (one-more hexByte hexBytes refl (λ b bs. refl) (now (a .bytes)) (l .i) (omega arith)),
     )
 
 same-length : tie.Need-same-length Inv-loop μ-loop
