@@ -46,7 +46,7 @@ module _ (r bs : List ℕ) (is : isRecord r ≡ true) where
   unfolding pastRecord
   past-is = drop-at r bs _ size
 
-none : isRecord (nextRecord []) ≡ false
+pub none : isRecord (nextRecord []) ≡ false
 unfolding nextRecord isRecord
 none = refl
 

@@ -1,1 +1,3 @@
+pub mod Season
 pub mod Report
+pub mod Laws

@@ -1,15 +1,12 @@
 -- Document 02, R-1: "Sixteen lines in farm order: `r`, the farm and the ten counts as listed, in decimal, each below 2^64."
 use mathlib.Core.List.{List, [], _∷_, _++_}
-use Prim.Native.Nat.{ℕ, zero, suc, _-_, _*_}
-use Rattle.station.specs.Parts.{farms, window}
+use Prim.Native.Nat.{ℕ, zero, suc}
+use Rattle.station.specs.Parts.{farms}
 use Rattle.journal.specs.Text.{decimal}
 use Rattle.journal.specs.Line.{space, badLine}
 use Rattle.season.specs.declared.Turn.{Turn}
 use Rattle.season.specs.declared.Turn.the-variants.{Counted, Bad, Over}
-
--- the ten counts of farm k among the totals of all farms
-abbrev pub countsOf : ℕ → List ℕ → List ℕ
-countsOf k totals = window ((k - 1) * 10) 10 totals
+use Rattle.season.specs.Season.{countsOf, seasonOf}
 
 -- numbers in decimal, each after a space
 abbrev pub spaced : List ℕ → List ℕ
@@ -34,3 +31,7 @@ endLine Over = 0x78 ∷ spaced (13 ∷ []) ++ (0x0A ∷ [])
 
 unfoldable pub reportText : List ℕ → Turn → List ℕ
 reportText totals last = linesTo farms totals ++ endLine last
+
+-- the whole report of a journal
+abbrev pub reportOf : List ℕ → List ℕ
+reportOf bs = reportText (seasonOf bs .totals) (seasonOf bs .last)

@@ -1,5 +1,11 @@
 // A season report over a journal: ten counts for each farm, and the text of them.
+ghost use mathlib.Core.Path.{_≡_};
+ghost use Rattle.journal.specs.Line.{recordAfter};
+ghost use Rattle.season.specs.Season.{stepOf};
+use journal::Did;
+
 mod report; // report.rt: the text
+mod totals; // totals.rt: what a record counts, added to the totals
 
 pub use report::put_report;
 
@@ -12,8 +18,27 @@ pub enum Turn {
     Over,
 }
 
-// Ten counts for each of 16 farms.
-pub const COUNTS: usize = 160;
+const FARMS: usize = 16;
+
+// The counts of one farm.
+const EACH: usize = 10;
+
+// Those of all farms.
+pub const COUNTS: usize = FARMS * EACH;
 
 // Room for any report: 16 lines of `r`, eleven numbers of at most 20 digits, each after a space, and the line's end; then `x 13`.
 pub const TEXT: usize = 3733;
+
+// Plays a record on the station and counts what it did. Number 13 leaves the totals as they were, and the station as the record did.
+pub fn step(station: &mut [u8], bytes: &[u8], totals: &mut [u64; COUNTS]) -> Turn
+    ensures { λ r. ⌜ r ≡ stepOf (now (bytes .entry)) (now (station .entry)) (now (totals .entry)) .last ⌝ }
+    ensures { λ r. ⌜ now (totals .exit) ≡ stepOf (now (bytes .entry)) (now (station .entry)) (now (totals .entry)) .totals ⌝ }
+    ensures { λ r. ⌜ now (station .exit) ≡ recordAfter (now (bytes .entry)) (now (station .entry)) ⌝ }
+{
+    let did = journal::act(station, bytes);
+    match did {
+        Did::Cycle(axis, c) => totals::add(totals, axis, &totals::of_cycle(c)),
+        Did::Frame(farm, f) => totals::add(totals, farm, &totals::of_frame(f)),
+        Did::Bad => Turn::Bad,
+    }
+}

@@ -6,13 +6,10 @@ ghost use lib.ListN.{length, drop};
 ghost use Rattle.codes.specs.Number.{put};
 ghost use Rattle.season.specs.Report.{spaced, farmLine, linesTo, endLine, reportText};
 use super::COUNTS;
+use super::EACH;
+use super::FARMS;
 use super::TEXT;
 use super::Turn;
-
-const FARMS: usize = 16;
-
-// The counts of one farm.
-const EACH: usize = 10;
 
 // Numbers, each after a space.
 fn put_spaced(numbers: &[u64], text: &mut [u8], at: usize) -> usize

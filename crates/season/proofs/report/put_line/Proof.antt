@@ -1,7 +1,8 @@
 -- The pieces of the line one after the other.
 use Rattle.journal.proofs.Pieces.{Wrote, wrote, promised, wrote-many, and-then, said}
 use Rattle.station.specs.Parts.{window}
-use Rattle.season.specs.Report.{countsOf, spaced, farmLine}
+use Rattle.season.specs.Season.{countsOf}
+use Rattle.season.specs.Report.{spaced, farmLine}
 use lib.ListN.{take, drop}
 use Prim.Native.Nat.{ℕ, _+_, _-_, _*_}
 use mathlib.Core.Path.{_≡_, refl, ap}

@@ -1,0 +1,64 @@
+-- What adding the counts of a record comes to, for each way that the code goes, and what it makes of the record's step.
+use mathlib.Core.Path.{_≡_, refl}
+use mathlib.Core.Bool.{true, false}
+use mathlib.Core.List.{List, []}
+use Prim.Native.Nat.{ℕ, _+_, _-_, _*_, _≤_, _<_}
+use native.Mathlib.Omega.{arith}
+use lib.ListN.{take, drop}
+use borrow.Author.Tests.{le-leb, lt-leb}
+use borrow.Rule.Slice.PartMut.{putMid}
+use borrow.Table.Steps.{cases}
+use Rattle.station.specs.Parts.{farms, window, withWindow}
+use Rattle.station.specs.Calls.{Call, Answer, toCycle, toFrame, owner, kinds}
+use Rattle.station.specs.Isolation.{answer}
+use Rattle.journal.specs.declared.Did.{Did}
+use Rattle.journal.specs.declared.Did.the-variants.{Cycle, Frame, Bad}
+use Rattle.journal.specs.Line.{isRecord, callOf}
+use Rattle.journal.specs.History.{told, didOf}
+use Rattle.season.specs.declared.Turn.{Turn}
+use Rattle.season.specs.declared.Turn.the-variants.{Counted, Bad as NoRecord, Over}
+use Rattle.season.specs.Season.{counted, plus, reaches, Season, added, turn, stepOf}
+
+ten : (k : ℕ) → (k - 1) * 10 + 10 - (k - 1) * 10 ≡ 10
+ten k = omega arith
+
+-- the counts of farm k, as the code lends them
+abbrev pub lentCounts : ℕ → List ℕ → List ℕ
+lentCounts k totals = take ((k - 1) * 10 + 10 - (k - 1) * 10) (drop ((k - 1) * 10) totals)
+
+module _ (k : ℕ) (counts totals : List ℕ) where
+  abbrev pub Comes : Turn → List ℕ → Type 0
+  Comes last after = (last ≡ added k counts totals .last) × (after ≡ added k counts totals .totals)
+
+  pub below : k ≡ 0 → Comes Counted totals
+  unfolding added
+  below e = rw e (refl, refl)
+
+  pub above : 16 < k → Comes Counted totals
+  unfolding added
+  above h = rw (le-leb 1 k (omega arith), lt-leb k farms h) (refl, refl)
+
+  module _ (low : 1 ≤ k) (high : k ≤ 16) where
+    pub over : reaches (plus (lentCounts k totals) counts) ≡ true → Comes Over totals
+    unfolding added window
+    over e = rw (le-leb 1 k low, le-leb k farms high, rw (ten k) at e) (refl, refl)
+
+    pub within : reaches (plus (lentCounts k totals) counts) ≡ false → (ns : List ℕ) → ns ≡ plus (lentCounts k totals) counts
+        → Comes Counted (putMid ((k - 1) * 10) ((k - 1) * 10 + 10 - (k - 1) * 10) totals ns)
+    unfolding added window withWindow
+    within e ns sums = rw (ten k, sums, ten k, le-leb 1 k low, le-leb k farms high, rw (ten k) at e) (refl, refl)
+
+-- what is counted of what a record did
+abbrev pub ofDid : Did → List ℕ → Season
+ofDid (Cycle k c) totals = added k (counted (toCycle c)) totals
+ofDid (Frame k f) totals = added k (counted (toFrame f [])) totals
+ofDid Bad totals = record { totals = totals; last = NoRecord }
+
+of-told : (c : Call) (a : Answer) (totals : List ℕ) → added (owner c) (counted a) totals ≡ ofDid (told c a) totals
+of-told c (toCycle d) totals = refl
+of-told c (toFrame f reply) totals = refl
+
+pub step-of : (r s totals : List ℕ) → stepOf r s totals ≡ ofDid (didOf r s) totals
+unfolding stepOf didOf turn
+step-of r s totals =
+    cases (isRecord r) (λ is. rw is (of-told (callOf r) (answer kinds (callOf r) s) totals)) (λ isnt. rw isnt)

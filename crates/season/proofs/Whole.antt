@@ -1,0 +1,58 @@
+-- Records counted one after the other are the season of the whole journal.
+use mathlib.Core.Path.{_≡_, refl, sym, _∙_}
+use mathlib.Core.Bool.{true, false}
+use mathlib.Core.List.{List, [], _∷_}
+use Prim.Native.Nat.{ℕ, zero, suc, _≤_}
+use native.Mathlib.Omega.{arith}
+use lib.ListN.{length}
+use borrow.Table.Steps.{cases}
+use Rattle.station.specs.Calls.{kinds}
+use Rattle.station.specs.Isolation.{after}
+use Rattle.journal.specs.Line.{nextRecord, pastRecord, isRecord, callOf, recordAfter}
+use Rattle.journal.specs.History.{partedIn, parted, doneBy, history}
+use Rattle.journal.specs.Laws.{piecesIn, pieces}
+use Rattle.journal.proofs.Whole.{none, shorter}
+use Rattle.season.specs.declared.Turn.{Turn}
+use Rattle.season.specs.declared.Turn.the-variants.{Counted, Bad, Over}
+use Rattle.season.specs.Season.{Season, turn, next, andThen, count, ending, seasonFrom, stepOf}
+use Rattle.season.specs.Laws.{stepped, CountsWhole}
+
+-- one after the other, however they are bracketed
+next-next : (l : Turn) (totals : List ℕ) (f g : List ℕ → Season) → andThen (next l totals f) g ≡ next l totals (λ u. andThen (f u) g)
+next-next Counted totals f g = refl
+next-next Bad totals f g = refl
+next-next Over totals f g = refl
+
+-- the same goes on alike
+next-same : (l : Turn) (totals : List ℕ) (f g : List ℕ → Season) → ((u : List ℕ) → f u ≡ g u) → next l totals f ≡ next l totals g
+next-same Counted totals f g e = e totals
+next-same Bad totals f g e = refl
+next-same Over totals f g e = refl
+
+-- pieces counted, by at most n of them
+abbrev Counts : ℕ → List ℕ → List ℕ → List ℕ → Type 0
+Counts n bs s totals = stepped (piecesIn n bs) s totals ≡ andThen (count (history (partedIn n bs .records) s) totals) (ending (partedIn n bs .left))
+
+count-record : (n b : ℕ) (bs s totals : List ℕ) → let r = nextRecord (b ∷ bs) in isRecord r ≡ true
+    → ((u : List ℕ) → Counts n (pastRecord (b ∷ bs)) (after kinds (callOf r) s) u) → Counts (suc n) (b ∷ bs) s totals
+unfolding stepped stepOf recordAfter count history
+count-record n b bs s totals is rest =
+    let t = turn (doneBy (nextRecord (b ∷ bs)) s) totals in
+    rw is (next-same (t .last) (t .totals) _ _ rest ∙ sym (next-next (t .last) (t .totals) _ _))
+
+count-bad : (n b : ℕ) (bs s totals : List ℕ) → isRecord (nextRecord (b ∷ bs)) ≡ false → Counts (suc n) (b ∷ bs) s totals
+unfolding stepped stepOf count history
+count-bad n b bs s totals isnt = rw isnt
+
+counts-in : (n : ℕ) (bs s totals : List ℕ) → length bs ≤ n → Counts n bs s totals
+unfolding stepped count history
+counts-in zero [] s totals h = refl
+counts-in zero (b ∷ bs) s totals h = absurd (omega arith)
+counts-in (suc n) [] s totals h = rw none
+counts-in (suc n) (b ∷ bs) s totals h =
+    let r = nextRecord (b ∷ bs) in
+    cases (isRecord r) (λ is. count-record n b bs s totals is (λ u. counts-in n (pastRecord (b ∷ bs)) (after kinds (callOf r) s) u (shorter (b ∷ bs) n h))) (count-bad n b bs s totals)
+
+pub counts-whole : CountsWhole
+unfolding seasonFrom parted pieces
+counts-whole bs s totals = counts-in (length bs) bs s totals (omega arith)
