@@ -4,8 +4,8 @@ use mathlib.Core.Path.{sym}
 use denote.Ref.{now}
 use native.Mathlib.Omega.{arith}
 use borrow.Author.Needs.{needs}
-use Rattle.replay.proofs.write_out.Statement.{statement}
-use Rattle.replay.proofs.write_out.Tie as tie
+use Rattle.player.proofs.out.write_out.Statement.{statement}
+use Rattle.player.proofs.out.write_out.Tie as tie
 
 slice-aggregate-write-all : tie.Need-slice-aggregate-write-all
 slice-aggregate-write-all c = let a = c .before .before .args in sym (length-take-le (a .used) (now (a .out)) (omega arith))

@@ -3,8 +3,8 @@ use lib.ListN.{length}
 use Prim.Native.Nat.{_-_}
 use mathlib.Core.Path.{_≡_}
 use borrow.Author.Needs.{needs}
-use Rattle.replay.proofs.move_to_front.Statement.{statement}
-use Rattle.replay.proofs.move_to_front.Tie as tie
+use Rattle.player.proofs.window.move_to_front.Statement.{statement}
+use Rattle.player.proofs.window.move_to_front.Tie as tie
 
 abbrev Inv-loop : tie.InvT-loop
 Inv-loop input₀ start end i₀ input i = length input ≡ length input₀

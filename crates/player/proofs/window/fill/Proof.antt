@@ -3,14 +3,14 @@ use lib.ListN.{length}
 use Prim.Native.Nat.{_≤_}
 use mathlib.Core.Path.{_≡_}
 use borrow.Author.Needs.{needs}
-use Rattle.replay.proofs.fill.Statement.{statement}
-use Rattle.replay.proofs.fill.Tie as tie
+use Rattle.player.proofs.window.fill.Statement.{statement}
+use Rattle.player.proofs.window.fill.Tie as tie
 
 abbrev Inv-loop : tie.InvT-loop
-Inv-loop fd path input₀ start₀ end₀ open₀ reads₀ input start end «open» reads = (start ≤ end) × (end ≤ length input) × (length input ≡ length input₀)
+Inv-loop name input₀ v₀ reads₀ input v reads = (v .start ≤ v .end) × (v .end ≤ length input) × (length input ≡ length input₀)
 
 abbrev μ-loop : tie.MeasureT-loop
-μ-loop fd path input₀ start₀ end₀ open₀ reads₀ input start end «open» reads = reads
+μ-loop name input₀ v₀ reads₀ input v reads = reads
 
 longest-record-requires : tie.Need-longest-record-requires Inv-loop μ-loop
 longest-record-requires c κs = search needs

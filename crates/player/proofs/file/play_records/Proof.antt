@@ -1,27 +1,33 @@
 -- It is safe and ends: the measure is how many records may still come.
 use lib.ListN.{length}
-use Prim.Native.Nat.{_≤_}
+use Prim.Native.Nat.{_-_, _≤_}
 use mathlib.Core.Path.{_≡_}
 use borrow.Author.Needs.{needs}
-use Rattle.replay.proofs.play_file.Statement.{statement}
-use Rattle.replay.proofs.play_file.Tie as tie
+use Rattle.player.proofs.file.play_records.Statement.{statement}
+use Rattle.player.proofs.file.play_records.Tie as tie
 
 abbrev Inv-loop : tie.InvT-loop
-Inv-loop fd path station₀ input₀ out₀ collected used₀ start₀ end₀ open₀ more₀ good₀ left₀ station input out used start end «open» more good left =
-    (used ≤ 16384) × (length station ≡ length station₀) × (start ≤ end) × (end ≤ length input) × (length input ≡ length input₀)
+Inv-loop job fd name station₀ input₀ out₀ collected used₀ window₀ went₀ records₀ station input out used window went records =
+    (used ≤ 16384) × (length station ≡ length station₀) × (window .start ≤ window .end) × (window .end ≤ length input) × (length input ≡ length input₀)
 
 abbrev μ-loop : tie.MeasureT-loop
-μ-loop fd path station₀ input₀ out₀ collected used₀ start₀ end₀ open₀ more₀ good₀ left₀ station input out used start end «open» more good left =
-    left
+μ-loop job fd name station₀ input₀ out₀ collected used₀ window₀ went₀ records₀ station input out used window went records =
+    18446744073709551615 - records
+
+unread-requires : tie.Need-unread-requires Inv-loop μ-loop
+unread-requires c κs = search needs
 
 loop-holds : tie.Need-loop-holds Inv-loop μ-loop
 loop-holds c = search needs
 
+is-on-requires : tie.Need-is-on-requires Inv-loop μ-loop
+is-on-requires c κs = search needs
+
 play-next-requires : tie.Need-play-next-requires Inv-loop μ-loop
 play-next-requires c κs = search needs
 
-sub-left : tie.Need-sub-left Inv-loop μ-loop
-sub-left c = search needs
+add-records : tie.Need-add-records Inv-loop μ-loop
+add-records c = search needs
 
 loop-less : tie.Need-loop-less Inv-loop μ-loop
 loop-less c = search needs
@@ -47,15 +53,17 @@ same-length-4 c = search needs
 returns-2 : tie.Need-returns-2 Inv-loop μ-loop
 returns-2 c = search needs
 
-pub play-file-spec : {M : Type 1} → statement M
-play-file-spec =
+pub play-records-spec : {M : Type 1} → statement M
+play-records-spec =
     tie.close
     (tie.spec
     Inv-loop
     μ-loop
+    unread-requires
     loop-holds
+    is-on-requires
     play-next-requires
-    sub-left
+    add-records
     loop-less
     loop-again
     same-length

@@ -1,0 +1,141 @@
+// The records of a file, one after the other.
+ghost use Prim.Native.Nat.{_≤_};
+ghost use lib.ListN.{length};
+use super::Job;
+use super::out::OUT;
+use super::record::Went;
+use super::record::Worked;
+use super::record::finish;
+use super::record::work;
+use super::window::Window;
+use super::window::fill;
+use super::window::from;
+use super::window::record_end;
+use super::window::unread;
+use libc::STDERR_FILENO;
+
+// How much output is collected, how it goes on, and the input that is left.
+struct Step {
+    used: usize,
+    went: Went,
+    window: Window,
+}
+
+// How much output is collected, how it goes on, and after how many records.
+struct Played {
+    used: usize,
+    went: Went,
+    records: u64,
+}
+
+fn is_on(went: Went) -> bool {
+    match went {
+        Went::On => true,
+        _ => false,
+    }
+}
+
+// How it goes on where no byte is left.
+fn ended(failed: bool) -> Went {
+    if failed { Went::Stopped } else { Went::End }
+}
+
+// Works one record, if there is one.
+fn play_next(
+    job: Job,
+    name: &[u8],
+    station: &mut [u8],
+    input: &mut [u8],
+    out: &mut [u8; OUT],
+    w: Window,
+    used: usize,
+) -> Step
+    requires { ⌜ (used ≤ 16384) × ((w .start ≤ w .end) × (w .end ≤ length (now input))) ⌝ }
+    ensures { λ r. ⌜ (r .used ≤ 16384) × ((r .window .start ≤ r .window .end) × (r .window .end ≤ length (now (input .entry)))) ⌝ }
+{
+    let v = fill(name, input, w);
+    let start = v.start;
+    let end = v.end;
+    if start == end {
+        return Step {
+            used,
+            went: ended(v.failed),
+            window: v,
+        };
+    }
+    let next = record_end(input, start, end);
+    let p = work(job, station, &input[start..next], out, used);
+    let went = p.went;
+    Step {
+        used: p.used,
+        went,
+        window: from(v, next),
+    }
+}
+
+// Works the records of a file until it does not go on. A proved loop has to end: this one counts up to a number of records that
+// no file has.
+fn play_records(
+    job: Job,
+    fd: i32,
+    name: &[u8],
+    station: &mut [u8],
+    input: &mut [u8],
+    out: &mut [u8; OUT],
+    collected: usize,
+) -> Played
+    requires { ⌜ collected ≤ 16384 ⌝ }
+    ensures { λ r. ⌜ r .used ≤ 16384 ⌝ }
+{
+    let mut used = collected;
+    let mut window = unread(fd);
+    let mut went = Went::On;
+    let mut records: u64 = 0;
+    while records < u64::MAX && is_on(went) {
+        let s = play_next(job, name, station, input, out, window, used);
+        used = s.used;
+        went = s.went;
+        window = s.window;
+        records += 1;
+    }
+    Played {
+        used,
+        went,
+        records,
+    }
+}
+
+fn say_bad(name: &[u8], record: u64) {
+    io::write_all(STDERR_FILENO, name);
+    io::write_all(STDERR_FILENO, b": record ");
+    io::print_decimal(STDERR_FILENO, record);
+    io::write_all(STDERR_FILENO, b" is bad\n");
+}
+
+// Plays a file to its end, or to what is bad: then the job is finished there, and after that the record is named.
+pub(crate) fn play_file(
+    job: Job,
+    fd: i32,
+    name: &[u8],
+    station: &mut [u8],
+    input: &mut [u8],
+    out: &mut [u8; OUT],
+    collected: usize,
+) -> Worked
+    requires { ⌜ collected ≤ 16384 ⌝ }
+    ensures { λ r. ⌜ r .used ≤ 16384 ⌝ }
+{
+    let p = play_records(job, fd, name, station, input, out, collected);
+    let went = p.went;
+    match went {
+        Went::Bad => {
+            finish(job, out, p.used);
+            say_bad(name, p.records);
+            Worked {
+                used: 0,
+                went: Went::Stopped,
+            }
+        }
+        _ => Worked { used: p.used, went },
+    }
+}
