@@ -2,8 +2,10 @@
 """Plays journals with their expected output through a program: journals.py [--report] FILE PROGRAM [ARGUMENT...].
 
 Each case's journal goes to the program's standard input; its whole standard output must be the case's lines. With --report they
-are those of a season report, where a farm without a line has ten zeros.
+are those of a season report, where a farm without a line has ten zeros. On standard error it may name the record that is bad, and
+say nothing else.
 Ends with "N journals, M failed", status 1 if any failed or the file has no case."""
+import re
 import subprocess
 import sys
 
@@ -56,6 +58,11 @@ def report(lines):
     yield from others
 
 
+def heard(said, out, record):
+    """Nothing, or that the record is bad where the output ends with that word."""
+    return re.fullmatch(f'(standard input: record {record} is bad\n)?' if out.endswith('bad\n') else '', said)
+
+
 def main():
     reports = sys.argv[1] == '--report'
     path, *program = sys.argv[1 + reports:]
@@ -64,10 +71,11 @@ def main():
     for case in every:
         lines = report(case['out']) if reports else case['out']
         expected = ''.join(line + '\n' for line in lines)
-        got = subprocess.run(program, input=case['journal'], stdout=subprocess.PIPE, check=False).stdout.decode()
-        if got != expected:
+        run = subprocess.run(program, input=case['journal'], capture_output=True, check=False)
+        got, said = run.stdout.decode(), run.stderr.decode()
+        if got != expected or not heard(said, got, '[0-9]+' if reports else len(case['out'])):
             failed += 1
-            print(f"case {case['name']}: expected\n{expected}got\n{got}")
+            print(f"case {case['name']}: expected\n{expected}got\n{got}and on standard error\n{said}")
     print(f'{len(every)} journals, {failed} failed')
     sys.exit(1 if failed or not every else 0)
 
