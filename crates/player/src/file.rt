@@ -12,6 +12,7 @@ use super::window::fill;
 use super::window::from;
 use super::window::record_end;
 use super::window::unread;
+use journal::LINE;
 use libc::STDERR_FILENO;
 
 // How much output is collected, how it goes on, and the input that is left.
@@ -46,6 +47,7 @@ fn play_next(
     name: &[u8],
     station: &mut [u8],
     input: &mut [u8],
+    line: &mut [u8; LINE],
     out: &mut [u8; OUT],
     w: Window,
     used: usize,
@@ -64,7 +66,7 @@ fn play_next(
         };
     }
     let next = record_end(input, start, end);
-    let p = work(job, station, &input[start..next], out, used);
+    let p = work(job, station, &input[start..next], line, out, used);
     let went = p.went;
     Step {
         used: p.used,
@@ -87,12 +89,13 @@ fn play_records(
     requires { ⌜ collected ≤ 16384 ⌝ }
     ensures { λ r. ⌜ r .used ≤ 16384 ⌝ }
 {
+    let mut line = [0u8; LINE];
     let mut used = collected;
     let mut window = unread(fd);
     let mut went = Went::On;
     let mut records: u64 = 0;
     while records < u64::MAX && is_on(went) {
-        let s = play_next(job, name, station, input, out, window, used);
+        let s = play_next(job, name, station, input, &mut line, out, window, used);
         used = s.used;
         went = s.went;
         window = s.window;

@@ -44,3 +44,10 @@ pub(crate) fn make_room(out: &[u8], used: usize, n: usize) -> Room
     let good = write_out(out, used);
     Room { at: 0, good }
 }
+
+// Puts the first n bytes of a line's memory at a place of the output.
+pub(crate) fn put_line(out: &mut [u8], at: usize, line: &[u8], n: usize)
+    requires { ⌜ n ≤ length (now line) ⌝ }
+{
+    codes::put_bytes(out, at, &line[..n]);
+}

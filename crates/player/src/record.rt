@@ -3,7 +3,9 @@ ghost use Prim.Native.Nat.{_≤_};
 use super::Job;
 use super::out::OUT;
 use super::out::make_room;
+use super::out::put_line;
 use super::out::write_rest;
+use journal::LINE;
 
 // How it goes on: with the next record; or the file has ended; or the bytes were no record; or the run is over, and why is said
 // on standard error already.
@@ -24,25 +26,29 @@ fn after_play(good: bool) -> Went {
     if good { Went::On } else { Went::Bad }
 }
 
-// Plays a record, or what is left in place of one, and collects its line.
-fn replay(station: &mut [u8], record: &[u8], out: &mut [u8; OUT], used: usize) -> Worked
+// Plays a record, or what is left in place of one, and collects its line. The line is made in memory that is lent, so that none is
+// cleared for each record.
+fn replay(
+    station: &mut [u8],
+    record: &[u8],
+    line: &mut [u8; LINE],
+    out: &mut [u8; OUT],
+    used: usize,
+) -> Worked
     requires { ⌜ used ≤ 16384 ⌝ }
     ensures { λ r. ⌜ r .used ≤ 16384 ⌝ }
 {
-    let mut line = [0u8; journal::LINE];
-    let p = journal::play(station, record, &mut line);
-    let length = p.length;
-    let room = make_room(out, used, length);
+    let p = journal::play(station, record, line);
+    let room = make_room(out, used, p.length);
     if !room.good {
         return Worked {
             used: 0,
             went: Went::Stopped,
         };
     }
-    let at = room.at;
-    codes::put_bytes(out, at, &line[..length]);
+    put_line(out, room.at, line, p.length);
     Worked {
-        used: at + length,
+        used: room.at + p.length,
         went: after_play(p.good),
     }
 }
@@ -52,6 +58,7 @@ pub(crate) fn work(
     job: Job,
     station: &mut [u8],
     record: &[u8],
+    line: &mut [u8; LINE],
     out: &mut [u8; OUT],
     used: usize,
 ) -> Worked
@@ -59,7 +66,7 @@ pub(crate) fn work(
     ensures { λ r. ⌜ r .used ≤ 16384 ⌝ }
 {
     match job {
-        Job::Replay => replay(station, record, out, used),
+        Job::Replay => replay(station, record, line, out, used),
     }
 }
 
