@@ -6,6 +6,7 @@ use super::out::OUT;
 use super::record::Went;
 use super::record::Worked;
 use libc::STDIN_FILENO;
+use season::COUNTS;
 
 fn is_dash(path: &[u8]) -> bool {
     if path.len() == 1 {
@@ -27,6 +28,7 @@ fn play_input(
     job: Job,
     station: &mut [u8],
     input: &mut [u8],
+    totals: &mut [u64; COUNTS],
     out: &mut [u8; OUT],
     used: usize,
 ) -> Worked
@@ -39,6 +41,7 @@ fn play_input(
         b"standard input",
         station,
         input,
+        totals,
         out,
         used,
     )
@@ -50,6 +53,7 @@ fn play_named(
     name: &[u8],
     station: &mut [u8],
     input: &mut [u8],
+    totals: &mut [u64; COUNTS],
     out: &mut [u8; OUT],
     used: usize,
 ) -> Worked
@@ -57,7 +61,7 @@ fn play_named(
     ensures { λ r. ⌜ r .used ≤ 16384 ⌝ }
 {
     if is_dash(name) {
-        return play_input(job, station, input, out, used);
+        return play_input(job, station, input, totals, out, used);
     }
     let fd = os::open_read(name);
     if fd < 0 {
@@ -67,7 +71,7 @@ fn play_named(
             went: Went::Stopped,
         };
     }
-    let r = play_file(job, fd, name, station, input, out, used);
+    let r = play_file(job, fd, name, station, input, totals, out, used);
     libc::close(fd);
     r
 }
@@ -78,6 +82,7 @@ fn play_argument(
     i: usize,
     station: &mut [u8],
     input: &mut [u8],
+    totals: &mut [u64; COUNTS],
     out: &mut [u8; OUT],
     used: usize,
 ) -> Worked
@@ -93,7 +98,7 @@ fn play_argument(
             went: Went::Stopped,
         };
     }
-    play_named(job, &name[..n], station, input, out, used)
+    play_named(job, &name[..n], station, input, totals, out, used)
 }
 
 // Plays the files that the arguments name, each after the end of the one before; with no argument, standard input.
@@ -101,19 +106,20 @@ pub(crate) fn play_arguments(
     job: Job,
     station: &mut [u8],
     input: &mut [u8],
+    totals: &mut [u64; COUNTS],
     out: &mut [u8; OUT],
 ) -> Worked
     ensures { λ r. ⌜ r .used ≤ 16384 ⌝ }
 {
     let count = os::arg_count();
     if count < 2 {
-        return play_input(job, station, input, out, 0);
+        return play_input(job, station, input, totals, out, 0);
     }
     let mut used: usize = 0;
     let mut went = Went::End;
     let mut i: usize = 1;
     while i < count && is_end(went) {
-        let r = play_argument(job, i, station, input, out, used);
+        let r = play_argument(job, i, station, input, totals, out, used);
         used = r.used;
         went = r.went;
         i += 1;

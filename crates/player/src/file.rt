@@ -14,6 +14,7 @@ use super::window::record_end;
 use super::window::unread;
 use journal::LINE;
 use libc::STDERR_FILENO;
+use season::COUNTS;
 
 // How much output is collected, how it goes on, and the input that is left.
 struct Step {
@@ -47,6 +48,7 @@ fn play_next(
     name: &[u8],
     station: &mut [u8],
     input: &mut [u8],
+    totals: &mut [u64; COUNTS],
     line: &mut [u8; LINE],
     out: &mut [u8; OUT],
     w: Window,
@@ -66,7 +68,7 @@ fn play_next(
         };
     }
     let next = record_end(input, start, end);
-    let p = work(job, station, &input[start..next], line, out, used);
+    let p = work(job, station, &input[start..next], totals, line, out, used);
     let went = p.went;
     Step {
         used: p.used,
@@ -83,6 +85,7 @@ fn play_records(
     name: &[u8],
     station: &mut [u8],
     input: &mut [u8],
+    totals: &mut [u64; COUNTS],
     out: &mut [u8; OUT],
     collected: usize,
 ) -> Played
@@ -95,7 +98,17 @@ fn play_records(
     let mut went = Went::On;
     let mut records: u64 = 0;
     while records < u64::MAX && is_on(went) {
-        let s = play_next(job, name, station, input, &mut line, out, window, used);
+        let s = play_next(
+            job,
+            name,
+            station,
+            input,
+            totals,
+            &mut line,
+            out,
+            window,
+            used,
+        );
         used = s.used;
         went = s.went;
         window = s.window;
@@ -108,37 +121,51 @@ fn play_records(
     }
 }
 
-fn say_bad(name: &[u8], record: u64) {
+// Names the record that ended the run.
+fn say(name: &[u8], record: u64, went: Went) {
     io::write_all(STDERR_FILENO, name);
     io::write_all(STDERR_FILENO, b": record ");
     io::print_decimal(STDERR_FILENO, record);
-    io::write_all(STDERR_FILENO, b" is bad\n");
+    match went {
+        Went::Over => {
+            io::write_all(STDERR_FILENO, b" would bring a count to 2^64\n");
+        }
+        _ => {
+            io::write_all(STDERR_FILENO, b" is bad\n");
+        }
+    }
 }
 
-// Plays a file to its end, or to what is bad: then the job is finished there, and after that the record is named.
+fn is_last(went: Went) -> bool {
+    match went {
+        Went::Bad | Went::Over => true,
+        _ => false,
+    }
+}
+
+// Plays a file to its end, or to the record that ends the run: then the job is finished there, and after that the record is named.
 pub(crate) fn play_file(
     job: Job,
     fd: i32,
     name: &[u8],
     station: &mut [u8],
     input: &mut [u8],
+    totals: &mut [u64; COUNTS],
     out: &mut [u8; OUT],
     collected: usize,
 ) -> Worked
     requires { ⌜ collected ≤ 16384 ⌝ }
     ensures { λ r. ⌜ r .used ≤ 16384 ⌝ }
 {
-    let p = play_records(job, fd, name, station, input, out, collected);
+    let p = play_records(job, fd, name, station, input, totals, out, collected);
     let went = p.went;
-    match went {
-        Went::Bad => {
-            finish(job, out, p.used);
-            say_bad(name, p.records);
-            Worked {
-                used: 0,
-                went: Went::Stopped,
-            }
-        }
-        _ => Worked { used: p.used, went },
+    if is_last(went) {
+        finish(job, went, totals, out, p.used);
+        say(name, p.records, went);
+        return Worked {
+            used: 0,
+            went: Went::Stopped,
+        };
     }
+    Worked { used: p.used, went }
 }

@@ -24,6 +24,13 @@ pub(crate) fn write_rest(out: &[u8; OUT], used: usize)
     write_out(out, used);
 }
 
+// Writes the report.
+pub(crate) fn write_report(text: &[u8; season::TEXT], length: usize)
+    requires { ⌜ length ≤ 3733 ⌝ }
+{
+    write_out(text, length);
+}
+
 // Where the next line goes, and whether what stood there before could be written.
 pub(crate) struct Room {
     pub(crate) at: usize,

@@ -4,15 +4,19 @@ use super::Job;
 use super::out::OUT;
 use super::out::make_room;
 use super::out::put_line;
+use super::out::write_report;
 use super::out::write_rest;
 use journal::LINE;
+use season::COUNTS;
+use season::Turn;
 
-// How it goes on: with the next record; or the file has ended; or the bytes were no record; or the run is over, and why is said
-// on standard error already.
+// How it goes on: with the next record; or the file has ended; or the bytes were no record, or a record would bring a count to
+// 2^64; or the run is stopped, and why is said on standard error already.
 pub(crate) enum Went {
     On,
     End,
     Bad,
+    Over,
     Stopped,
 }
 
@@ -53,11 +57,21 @@ fn replay(
     }
 }
 
+// Counts a record, or what is left in place of one.
+fn count(station: &mut [u8], record: &[u8], totals: &mut [u64; COUNTS]) -> Went {
+    match season::step(station, record, totals) {
+        Turn::Counted => Went::On,
+        Turn::Bad => Went::Bad,
+        Turn::Over => Went::Over,
+    }
+}
+
 // Does the job with a record, or with what is left in place of one.
 pub(crate) fn work(
     job: Job,
     station: &mut [u8],
     record: &[u8],
+    totals: &mut [u64; COUNTS],
     line: &mut [u8; LINE],
     out: &mut [u8; OUT],
     used: usize,
@@ -67,14 +81,35 @@ pub(crate) fn work(
 {
     match job {
         Job::Replay => replay(station, record, line, out, used),
+        Job::Report => Worked {
+            used,
+            went: count(station, record, totals),
+        },
+    }
+}
+
+fn report(totals: &[u64; COUNTS], last: Turn) {
+    let mut text = [0u8; season::TEXT];
+    let length = season::put_report(totals, last, &mut text);
+    write_report(&text, length);
+}
+
+// Writes the counts; none where something stopped the run, since they would pass for those of the whole journal.
+fn report_after(went: Went, totals: &[u64; COUNTS]) {
+    match went {
+        Went::Stopped => {}
+        Went::Bad => report(totals, Turn::Bad),
+        Went::Over => report(totals, Turn::Over),
+        _ => report(totals, Turn::Counted),
     }
 }
 
 // Writes what the job still has to write.
-pub(crate) fn finish(job: Job, out: &[u8; OUT], used: usize)
+pub(crate) fn finish(job: Job, went: Went, totals: &[u64; COUNTS], out: &[u8; OUT], used: usize)
     requires { ⌜ used ≤ 16384 ⌝ }
 {
     match job {
         Job::Replay => write_rest(out, used),
+        Job::Report => report_after(went, totals),
     }
 }

@@ -7,10 +7,10 @@ use Rattle.player.proofs.arguments.play_arguments.Statement.{statement}
 use Rattle.player.proofs.arguments.play_arguments.Tie as tie
 
 abbrev Inv-loop : tie.InvT-loop
-Inv-loop job station₀ input₀ out₀ count used₀ went₀ i₀ station input out used went i = (used ≤ 16384) × (length station ≡ length station₀) × (length input ≡ length input₀)
+Inv-loop job station₀ input₀ totals₀ out₀ count used₀ went₀ i₀ station input totals out used went i = (used ≤ 16384) × (length station ≡ length station₀) × (length input ≡ length input₀)
 
 abbrev μ-loop : tie.MeasureT-loop
-μ-loop job station₀ input₀ out₀ count used₀ went₀ i₀ station input out used went i = count - i
+μ-loop job station₀ input₀ totals₀ out₀ count used₀ went₀ i₀ station input totals out used went i = count - i
 
 arg-count-requires : tie.Need-arg-count-requires Inv-loop μ-loop
 arg-count-requires c κs = search needs

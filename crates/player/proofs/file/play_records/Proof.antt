@@ -7,11 +7,11 @@ use Rattle.player.proofs.file.play_records.Statement.{statement}
 use Rattle.player.proofs.file.play_records.Tie as tie
 
 abbrev Inv-loop : tie.InvT-loop
-Inv-loop job fd name station₀ input₀ out₀ collected line₀ used₀ window₀ went₀ records₀ station input out line used window went records =
+Inv-loop job fd name station₀ input₀ totals₀ out₀ collected line₀ used₀ window₀ went₀ records₀ station input totals out line used window went records =
     (used ≤ 16384) × (length station ≡ length station₀) × (window .start ≤ window .end) × (window .end ≤ length input) × (length input ≡ length input₀)
 
 abbrev μ-loop : tie.MeasureT-loop
-μ-loop job fd name station₀ input₀ out₀ collected line₀ used₀ window₀ went₀ records₀ station input out line used window went records =
+μ-loop job fd name station₀ input₀ totals₀ out₀ collected line₀ used₀ window₀ went₀ records₀ station input totals out line used window went records =
     18446744073709551615 - records
 
 unread-requires : tie.Need-unread-requires Inv-loop μ-loop
