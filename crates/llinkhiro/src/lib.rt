@@ -1,8 +1,10 @@
-// The calls of a host, exported as one library: each is one call of a crate below, and promises the same. No other crate exports.
+// The calls of a host, exported as one library: each is one call of a crate below, and promises what a host is handed of it. No other
+// crate exports.
 ghost use mathlib.Core.Path.{_≡_};
 ghost use Rattle.station.specs.Parts.{stationSize, freshNumber, freshStation};
 ghost use Rattle.station.specs.Isolation.{answer, after};
-ghost use Rattle.station.specs.Calls.{kinds, cycle, frame, toCycle, toFrame};
+ghost use Rattle.station.specs.Calls.{kinds, cycle, frame};
+ghost use Rattle.llinkhiro.specs.Host.{ofCycle, ofFrame, handed};
 use station::Cycled;
 use station::Framed;
 
@@ -34,10 +36,11 @@ pub extern "C" fn llinkhiro_cycle(
     nist: i16,
     fault: u16,
 ) -> Cycled
-    ensures { λ r. ⌜ toCycle r ≡ answer kinds (cycle axis (record { flags = flags; stw1 = stw1; nsoll = nsoll; nist = nist; fault = fault })) (now (station .entry)) ⌝ }
+    ensures { λ r. ⌜ ofCycle r ≡ handed (answer kinds (cycle axis (record { flags = flags; stw1 = stw1; nsoll = nsoll; nist = nist; fault = fault })) (now (station .entry))) ⌝ }
     ensures { λ r. ⌜ now (station .exit) ≡ after kinds (cycle axis (record { flags = flags; stw1 = stw1; nsoll = nsoll; nist = nist; fault = fault })) (now (station .entry)) ⌝ }
 {
-    station::cycle(station, axis, flags, stw1, nsoll, nist, fault)
+    let c = station::cycle(station, axis, flags, stw1, nsoll, nist, fault);
+    c.told
 }
 
 // A frame of a farm, answered in the reply memory.
@@ -48,7 +51,7 @@ pub extern "C" fn llinkhiro_frame(
     f: &[u8],
     reply: &mut [u8],
 ) -> Framed
-    ensures { λ r. ⌜ toFrame r (now (reply .exit)) ≡ answer kinds (frame farm (now (f .entry)) (now (reply .entry))) (now (station .entry)) ⌝ }
+    ensures { λ r. ⌜ ofFrame r (now (reply .exit)) ≡ handed (answer kinds (frame farm (now (f .entry)) (now (reply .entry))) (now (station .entry))) ⌝ }
     ensures { λ r. ⌜ now (station .exit) ≡ after kinds (frame farm (now (f .entry)) (now (reply .entry))) (now (station .entry)) ⌝ }
 {
     station::frame(station, farm, f, reply)

@@ -1,0 +1,14 @@
+-- What a host is handed of an answer: all of it, but of a cycle not what document 02, R-1, counts.
+use mathlib.Core.List.{List}
+use Prim.Native.Nat.{ℕ}
+use Rattle.station.specs.declared.Cycled.{Cycled}
+use Rattle.station.specs.declared.Framed.{Framed}
+use Rattle.station.specs.Calls.{Answer, toCycle, toFrame}
+
+pub data Handed : Type 0 where
+  ofCycle : Cycled → Handed
+  ofFrame : Framed → List ℕ → Handed
+
+abbrev pub handed : Answer → Handed
+handed (toCycle c) = ofCycle (c .told)
+handed (toFrame f reply) = ofFrame f reply
