@@ -12,7 +12,7 @@ use Rattle.codes.specs.Code.{AllOf}
 use Rattle.station.specs.Calls.{kinds}
 use Rattle.station.specs.Isolation.{answer, after}
 use Rattle.journal.specs.Line.{recordLength, longestRecord, nextRecord, pastRecord, isRecord, callOf, lineOf, recordLine, recordAfter, badLine}
-use Rattle.journal.specs.History.{Parted, partedIn, parted, history, lines, endLine, replayFrom}
+use Rattle.journal.specs.History.{Parted, partedIn, parted, history, calls, lines, endLine, replayFrom}
 use Rattle.journal.specs.Laws.{joined, PartedAsWritten, Written, EveryJournal, EnoughBytes, piecesIn, pieces, played, PlaysWhole}
 use Rattle.journal.proofs.Records.{record-whole}
 
@@ -103,7 +103,7 @@ enough-bytes bs more long =
 
 -- pieces played, by at most n of them
 abbrev Plays : ℕ → List ℕ → List ℕ → Type 0
-Plays n bs s = played (piecesIn n bs) s ≡ lines (history (partedIn n bs .records) s) ++ endLine (partedIn n bs .left)
+Plays n bs s = played (piecesIn n bs) s ≡ lines (history (calls (partedIn n bs)) s) ++ endLine (partedIn n bs .left)
 
 -- a record, and the pieces past it
 play-record : (n b : ℕ) (bs s : List ℕ) → let r = nextRecord (b ∷ bs) in isRecord r ≡ true

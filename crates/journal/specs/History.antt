@@ -2,7 +2,7 @@
 -- history is the call of each record with its answer; the lines are those of the history, then `bad`. Document 02, R-1, counts over
 -- the same history.
 use mathlib.Core.Bool.{Bool, cond}
-use mathlib.Core.List.{List, [], _∷_, _++_}
+use mathlib.Core.List.{List, [], _∷_, _++_, map}
 use Prim.Native.Nat.{ℕ, zero, suc}
 use lib.ListN.{length}
 use Rattle.station.specs.Parts.{farms, freshParts}
@@ -35,14 +35,17 @@ pub record Done : Type 0 where
   pub call : Call
   pub answer : Answer
 
--- what the bytes of a record do on the station s
-abbrev pub doneBy : List ℕ → List ℕ → Done
-doneBy r s = record { call = callOf r; answer = answer kinds (callOf r) s }
+abbrev pub doneBy : Call → List ℕ → Done
+doneBy c s = record { call = c; answer = answer kinds c s }
 
--- the history of records, from the station s on
-unfoldable pub history : List (List ℕ) → List ℕ → List Done
+-- the history of calls, from the station s on
+unfoldable pub history : List Call → List ℕ → List Done
 history [] s = []
-history (r ∷ rs) s = doneBy r s ∷ history rs (after kinds (callOf r) s)
+history (c ∷ cs) s = doneBy c s ∷ history cs (after kinds c s)
+
+-- a record makes its call
+abbrev pub calls : Parted → List Call
+calls p = map callOf (p .records)
 
 -- a line for each
 abbrev pub lines : List Done → List ℕ
@@ -56,7 +59,7 @@ endLine (b ∷ left) = badLine
 
 -- the output of a replay of a journal, from the station s on
 unfoldable pub replayFrom : List ℕ → List ℕ → List ℕ
-replayFrom bs s = lines (history (parted bs .records) s) ++ endLine (parted bs .left)
+replayFrom bs s = lines (history (calls (parted bs)) s) ++ endLine (parted bs .left)
 
 -- "Whole output of a fresh run"
 abbrev pub replayOf : List ℕ → List ℕ

@@ -1,3 +1,5 @@
 pub mod Sums
 pub mod Adds
 pub mod Whole
+pub mod Farms
+pub mod Worked

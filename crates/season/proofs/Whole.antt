@@ -9,7 +9,7 @@ use borrow.Table.Steps.{cases}
 use Rattle.station.specs.Calls.{kinds}
 use Rattle.station.specs.Isolation.{after}
 use Rattle.journal.specs.Line.{nextRecord, pastRecord, isRecord, callOf, recordAfter}
-use Rattle.journal.specs.History.{partedIn, parted, doneBy, history}
+use Rattle.journal.specs.History.{partedIn, parted, doneBy, history, calls}
 use Rattle.journal.specs.Laws.{piecesIn, pieces}
 use Rattle.journal.proofs.Whole.{none, shorter}
 use Rattle.season.specs.declared.Turn.{Turn}
@@ -31,13 +31,13 @@ next-same Over totals f g e = refl
 
 -- pieces counted, by at most n of them
 abbrev Counts : ℕ → List ℕ → List ℕ → List ℕ → Type 0
-Counts n bs s totals = stepped (piecesIn n bs) s totals ≡ andThen (count (history (partedIn n bs .records) s) totals) (ending (partedIn n bs .left))
+Counts n bs s totals = stepped (piecesIn n bs) s totals ≡ andThen (count (history (calls (partedIn n bs)) s) totals) (ending (partedIn n bs .left))
 
 count-record : (n b : ℕ) (bs s totals : List ℕ) → let r = nextRecord (b ∷ bs) in isRecord r ≡ true
     → ((u : List ℕ) → Counts n (pastRecord (b ∷ bs)) (after kinds (callOf r) s) u) → Counts (suc n) (b ∷ bs) s totals
 unfolding stepped stepOf recordAfter count history
 count-record n b bs s totals is rest =
-    let t = turn (doneBy (nextRecord (b ∷ bs)) s) totals in
+    let t = turn (doneBy (callOf (nextRecord (b ∷ bs))) s) totals in
     rw is (next-same (t .last) (t .totals) _ _ rest ∙ sym (next-next (t .last) (t .totals) _ _))
 
 count-bad : (n b : ℕ) (bs s totals : List ℕ) → isRecord (nextRecord (b ∷ bs)) ≡ false → Counts (suc n) (b ∷ bs) s totals

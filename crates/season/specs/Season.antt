@@ -7,8 +7,8 @@ use lib.Dec.{eqb, leb}
 use lib.ListN.{replicate}
 use Rattle.station.specs.Parts.{farms, window, withWindow, freshParts}
 use Rattle.station.specs.Calls.{Answer, toCycle, toFrame, owner}
-use Rattle.journal.specs.Line.{isRecord}
-use Rattle.journal.specs.History.{parted, Done, doneBy, history}
+use Rattle.journal.specs.Line.{isRecord, callOf}
+use Rattle.journal.specs.History.{parted, Done, doneBy, history, calls}
 use Rattle.season.specs.declared.Turn.{Turn}
 use Rattle.season.specs.declared.Turn.the-variants.{Counted, Bad, Over}
 
@@ -88,7 +88,7 @@ ending (b ∷ left) totals = record { totals = totals; last = Bad }
 
 -- a whole journal, from the station s and the totals given
 unfoldable pub seasonFrom : List ℕ → List ℕ → List ℕ → Season
-seasonFrom bs s totals = andThen (count (history (parted bs .records) s) totals) (ending (parted bs .left))
+seasonFrom bs s totals = andThen (count (history (calls (parted bs)) s) totals) (ending (parted bs .left))
 
 -- from a fresh station and no counts
 unfoldable pub seasonOf : List ℕ → Season
@@ -96,4 +96,4 @@ seasonOf bs = seasonFrom bs (freshParts farms) (replicate (farms * 10) 0)
 
 -- one record: a turn, where it is one
 unfoldable pub stepOf : List ℕ → List ℕ → List ℕ → Season
-stepOf r s totals = cond (isRecord r) (turn (doneBy r s) totals) (record { totals = totals; last = Bad })
+stepOf r s totals = cond (isRecord r) (turn (doneBy (callOf r) s) totals) (record { totals = totals; last = Bad })

@@ -1,0 +1,144 @@
+-- The counts of one farm: those of its own calls' answers, added up; so the others' do not matter.
+use mathlib.Core.Path.{_≡_, refl, sym, ap, _∙_}
+use mathlib.Core.Bool.{Bool, true, false, cond, not, _&&_, false≢true}
+use mathlib.Core.List.{List, [], _∷_}
+use Prim.Native.Nat.{ℕ, zero, suc, _+_, _-_, _*_, _≤_, _<_}
+use native.Mathlib.Omega.{arith}
+use native.Mathlib.Decide.{decLt}
+use lib.Dec.{eqb, leb}
+use lib.ListN.{length}
+use borrow.Author.Tests.{eqb-true, eqb-false, leb-true, not-false, le-leb}
+use borrow.Table.Steps.{cases}
+use Rattle.codes.proofs.Demand.{both}
+use Rattle.station.specs.Parts.{farms, stationSize, partOf}
+use Rattle.station.specs.Runs.{runAnswers, answersTo, SameSeen}
+use Rattle.station.specs.Isolation.{answer, after, machine, Isolated}
+use Rattle.station.specs.Calls.{Call, Answer, toCycle, toFrame, owner, kinds}
+use Rattle.station.proofs.Windows.{length-window, length-with, window-same, window-before, window-after}
+use Rattle.station.proofs.Isolation.{ends}
+use Rattle.station.proofs.Sizes.{isolated-station}
+use Rattle.journal.specs.History.{doneBy, history}
+use Rattle.season.specs.declared.Turn.{Turn}
+use Rattle.season.specs.declared.Turn.the-variants.{Counted, Bad, Over}
+use Rattle.season.specs.Season.{counted, countsOf, withCounts, plus, reaches, Season, added, turn, next, count}
+use Rattle.season.specs.Laws.{Tallied, FarmsApart}
+use Rattle.season.proofs.Sums.{plus-length}
+
+ten-counts : (a : Answer) → length (counted a) ≡ 10
+ten-counts (toCycle c) = refl
+ten-counts (toFrame f reply) = refl
+
+-- a farm's counts begin and end within the totals
+inside : (k : ℕ) (totals : List ℕ) → 1 ≤ k → k ≤ farms → length totals ≡ farms * 10 → (k - 1) * 10 + 10 ≤ length totals
+inside k totals low high size = omega (arith, ends k farms 10 low high)
+
+isCounted : Turn → Bool
+isCounted Counted = true
+isCounted Bad = false
+isCounted Over = false
+
+-- what adding the ten counts of an answer for farm j does to those of farm k
+module _ (j : ℕ) (counts totals : List ℕ) (ten : length counts ≡ 10) (size : length totals ≡ farms * 10) where
+  abbrev sums : List ℕ
+  sums = plus (countsOf j totals) counts
+
+  sums-ten : 1 ≤ j → j ≤ farms → length sums ≡ 10
+  sums-ten low high = plus-length (countsOf j totals) counts (length-window ((j - 1) * 10) 10 totals (inside j totals low high size) ∙ sym ten) ∙ ten
+
+  -- by the three ways that it goes
+  module _ (P : Season → Type 0)
+      (as-was : (l : Turn) → P (record { totals = totals; last = l }))
+      (grown : 1 ≤ j → j ≤ farms → P (record { totals = withCounts j sums totals; last = Counted })) where
+    ways : P (added j counts totals)
+    unfolding added
+    ways =
+        cases (leb 1 j && leb j farms)
+        (λ is.
+        let b = both (leb 1 j) (leb j farms) is in
+        rw is
+        (cases (reaches (plus (countsOf j totals) counts)) (λ over. rw over (as-was Over))
+        (λ fits. rw fits (grown (leb-true 1 j (b .0)) (leb-true j farms (b .1))))))
+        (λ isnt. rw isnt (as-was Counted))
+
+  same-size : length (added j counts totals .totals) ≡ farms * 10
+  same-size =
+      ways (λ c. length (c .totals) ≡ farms * 10) (λ l. size)
+      (λ low high. length-with ((j - 1) * 10) 10 sums totals (inside j totals low high size) (sums-ten low high) ∙ size)
+
+  -- another farm's
+  apart : (k : ℕ) → 1 ≤ k → k ≤ farms → (j ≡ k → ⊥) → countsOf k (added j counts totals .totals) ≡ countsOf k totals
+  apart k low high differs = ways (λ c. countsOf k (c .totals) ≡ countsOf k totals) (λ l. refl) (λ lo hi. beside lo hi (decLt j k) (decLt k j))
+    where
+      beside : 1 ≤ j → j ≤ farms → Dec (j < k) → Dec (k < j) → countsOf k (withCounts j sums totals) ≡ countsOf k totals
+      beside lo hi (yes h) m =
+          window-after ((j - 1) * 10) 10 sums totals (inside j totals lo hi size) (sums-ten lo hi) ((k - 1) * 10) 10
+          (ends j (k - 1) 10 lo (omega arith)) (inside k totals low high size)
+      beside lo hi (no h) (yes m) =
+          window-before ((j - 1) * 10) 10 sums totals (inside j totals lo hi size) (sums-ten lo hi) ((k - 1) * 10) 10
+          (ends k (j - 1) 10 low (omega arith))
+      beside lo hi (no h) (no m) = absurd (differs (omega arith))
+
+  -- its own
+  own : 1 ≤ j → j ≤ farms → added j counts totals .last ≡ Counted → countsOf j (added j counts totals .totals) ≡ sums
+  unfolding added isCounted
+  own low high e =
+      cases (reaches (plus (countsOf j totals) counts))
+      (λ over.
+      let at : added j counts totals .last ≡ Over = rw (le-leb 1 j low, le-leb j farms high, over) in
+      absurd (false≢true (ap isCounted (sym at ∙ e))))
+      (λ fits. rw (le-leb 1 j low, le-leb j farms high, fits)
+      (window-same ((j - 1) * 10) 10 sums totals (inside j totals low high size) (sums-ten low high)))
+
+-- answers counted one after the other
+summed : List Answer → List ℕ → List ℕ
+summed [] counts = counts
+summed (a ∷ more) counts = summed more (plus counts (counted a))
+
+-- what came to its end went on
+went-on : (l : Turn) (totals : List ℕ) (more : List ℕ → Season) → next l totals more .last ≡ Counted → (l ≡ Counted) × (next l totals more ≡ more totals)
+unfolding isCounted
+went-on Counted totals more e = (refl, refl)
+went-on Bad totals more e = absurd (false≢true (ap isCounted e))
+went-on Over totals more e = absurd (false≢true (ap isCounted e))
+
+module _ (k : ℕ) (low : 1 ≤ k) (high : k ≤ farms) where
+  abbrev answersOf : List Call → List ℕ → List Answer
+  answersOf cs s = answersTo (machine kinds) (λ c. eqb (owner c) k) cs (runAnswers (machine kinds) cs s)
+
+  -- one turn, of the farm's own call and of another's
+  turn-own : (c : Call) (s totals : List ℕ) → length totals ≡ farms * 10 → owner c ≡ k → turn (doneBy c s) totals .last ≡ Counted
+      → countsOf k (turn (doneBy c s) totals .totals) ≡ plus (countsOf k totals) (counted (answer kinds c s))
+  unfolding turn
+  turn-own c s totals size mine e =
+      ap (λ (x : ℕ). countsOf x (added (owner c) (counted (answer kinds c s)) totals .totals)) (sym mine)
+      ∙ (own (owner c) (counted (answer kinds c s)) totals (ten-counts (answer kinds c s)) size (rw mine low) (rw mine high) e
+      ∙ ap (λ (x : ℕ). plus (countsOf x totals) (counted (answer kinds c s))) mine)
+
+  turn-other : (c : Call) (s totals : List ℕ) → length totals ≡ farms * 10 → (owner c ≡ k → ⊥) → countsOf k (turn (doneBy c s) totals .totals) ≡ countsOf k totals
+  unfolding turn
+  turn-other c s totals size other = apart (owner c) (counted (answer kinds c s)) totals (ten-counts (answer kinds c s)) size k low high other
+
+  turn-size : (c : Call) (s totals : List ℕ) → length totals ≡ farms * 10 → length (turn (doneBy c s) totals .totals) ≡ farms * 10
+  unfolding turn
+  turn-size c s totals size = same-size (owner c) (counted (answer kinds c s)) totals (ten-counts (answer kinds c s)) size
+
+  -- so the farm's counts are its answers, summed
+  folded : (cs : List Call) (s totals : List ℕ) → length totals ≡ farms * 10 → count (history cs s) totals .last ≡ Counted
+      → countsOf k (count (history cs s) totals .totals) ≡ summed (answersOf cs s) (countsOf k totals)
+  unfolding count history answersTo runAnswers summed
+  folded [] s totals size e = refl
+  folded (c ∷ cs) s totals size e =
+      let t = turn (doneBy c s) totals in
+      let w = went-on (t .last) (t .totals) (count (history cs (after kinds c s))) e in
+      let rest = ap (λ (x : Season). countsOf k (x .totals)) (w .1) ∙ folded cs (after kinds c s) (t .totals) (turn-size c s totals size) (ap (λ (x : Season). x .last) (sym (w .1)) ∙ e) in
+      cases (eqb (owner c) k)
+      (λ mine. rw mine (rest ∙ ap (summed (answersOf cs (after kinds c s))) (turn-own c s totals size (eqb-true (owner c) k mine) (w .0))))
+      (λ other. rw other (rest ∙ ap (summed (answersOf cs (after kinds c s))) (turn-other c s totals size (eqb-false (owner c) k other))))
+
+pub farms-apart : FarmsApart
+unfolding Isolated SameSeen
+farms-apart k low high cs s totals a ds t others b parts counts calls =
+    let seen = isolated-station k low high s t (a .station) (b .station) parts cs ds calls in
+    folded k low high cs s totals (a .size) (a .all)
+    ∙ ((λ j. summed (seen .0 j) (counts j))
+    ∙ sym (folded k low high ds t others (b .size) (b .all)))
