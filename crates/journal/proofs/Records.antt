@@ -5,13 +5,11 @@ use mathlib.Core.List.{List, [], _∷_, _++_}
 use Prim.Native.Nat.{ℕ, zero, suc, _+_, _≤_, _<_}
 use native.Mathlib.Omega.{arith}
 use native.Mathlib.Numerals.{add-one}
-use native.Mathlib.Nat.{zero-add}
 use lib.Dec.{eqb, leb}
 use lib.ListN.{length, getD, drop}
 use lib.Seq.{drop-cons}
 use borrow.Author.Tests.{eqb-true, leb-true, eq-eqb, ne-eqb}
 use Rattle.codes.specs.Number.{put}
-use Rattle.codes.proofs.Put.{put-fits}
 use Rattle.drive.specs.Faults.{zeros}
 use Rattle.station.specs.Calls.{Call, kinds}
 use Rattle.station.specs.Isolation.{answer, after}
@@ -19,6 +17,7 @@ use Rattle.journal.specs.Line.{recordLength, cycleRecord, frameRecord, c
 use Rattle.journal.specs.declared.Did.{Did}
 use Rattle.journal.specs.declared.Did.the-variants.{Bad}
 use Rattle.journal.specs.History.{told, didOf}
+use Rattle.journal.proofs.Pieces.{wrote-first, from-start}
 
 -- bytes tested for 0, from a place on
 pub clear-past : (s : List ℕ) (i : ℕ) → length s ≤ i → zeros (drop i s) ≡ true
@@ -87,5 +86,5 @@ module _ (r s : List ℕ) where
   module _ {bs u : List ℕ} {d : Did} {g : Bool} (e : Comes bs u d g) (l : List ℕ) {m t : List ℕ} {p : ℕ} where
     pub played : m ≡ put l 0 bs → p ≡ length bs → p ≤ 513 → length l ≡ 513 → t ≡ u → (m ≡ recordLine r s ++ drop p l) × (((p ≡ length (recordLine r s)) × (p ≤ 513)) × ((g ≡ isRecord r) × (t ≡ recordAfter r s)))
     played put-there long fits room left =
-        let all : m ≡ bs ++ drop p l = put-there ∙ (put-fits l 0 bs (omega arith) ∙ ap (λ (k : ℕ). bs ++ drop k l) (zero-add (length bs) ∙ sym long)) in
+        let all : m ≡ bs ++ drop p l = from-start (wrote-first (put-there, (long, fits))) (omega arith) in
         (rw (e .line) all, ((rw (e .line) long, fits), (sym (e .good), left ∙ sym (e .after))))

@@ -1,19 +1,19 @@
 -- The laws of a whole journal: how it is parted, and that the records played one after the other are its replay.
 use mathlib.Core.Path.{_≡_, refl, sym, ap, _∙_}
-use mathlib.Core.Bool.{Bool, true, false, cond, true≢false}
+use mathlib.Core.Bool.{true, false}
 use mathlib.Core.List.{List, [], _∷_, _++_, append-assoc}
-use Prim.Native.Nat.{ℕ, zero, suc, _+_, _≤_}
+use Prim.Native.Nat.{ℕ, zero, suc, _≤_}
 use native.Mathlib.Omega.{arith}
 use lib.Dec.{eqb, lit≤}
-use lib.ListN.{length, getD, take, drop, length-append, length-drop, take-append-drop, List·getD-append}
+use lib.ListN.{length, getD, take, length-append, length-drop, take-append-drop, List·getD-append}
 use lib.Seq.{take-append-le, take-at, drop-at}
 use borrow.Table.Steps.{cases}
 use Rattle.codes.specs.Code.{AllOf}
 use Rattle.station.specs.Calls.{kinds}
 use Rattle.station.specs.Isolation.{answer, after}
-use Rattle.journal.specs.Line.{recordLength, longestRecord, nextRecord, pastRecord, isRecord, callOf, lineOf, recordLine, recordAfter, badLine}
-use Rattle.journal.specs.History.{Parted, partedIn, parted, history, calls, lines, endLine, replayFrom}
-use Rattle.journal.specs.Laws.{joined, PartedAsWritten, Written, EveryJournal, EnoughBytes, piecesIn, pieces, played, PlaysWhole}
+use Rattle.journal.specs.Line.{recordLength, longestRecord, nextRecord, pastRecord, isRecord, callOf, lineOf, recordLine, recordAfter}
+use Rattle.journal.specs.History.{partedIn, parted, history, calls, lines, endLine, replayFrom}
+use Rattle.journal.specs.Laws.{joined, PartedAsWritten, EveryJournal, EnoughBytes, piecesIn, pieces, played, PlaysWhole}
 use Rattle.journal.proofs.Records.{record-whole}
 
 -- a record has a byte at least, and no more than the longest

@@ -1,7 +1,7 @@
 -- Document 01, "Journal program", the whole of it: a journal's bytes are parted into records, up to its end or to what is bad; the
 -- history is the call of each record with its answer; the lines are those of the history, then `bad`. Document 02, R-1, counts over
 -- the same history.
-use mathlib.Core.Bool.{Bool, cond}
+use mathlib.Core.Bool.{cond}
 use mathlib.Core.List.{List, [], _∷_, _++_, map}
 use Prim.Native.Nat.{ℕ, zero, suc}
 use lib.ListN.{length}

@@ -18,7 +18,6 @@ pub(crate) const FRAME_ROOM: usize = 244;
 // How long a record is, by its kind byte; anything else ends with that byte.
 fn record_length(kind: u8) -> usize
     ensures { λ r. ⌜ r ≡ recordLength kind ⌝ }
-    ensures { λ r. ⌜ (1 ≤ r) × (r ≤ longestRecord) ⌝ }
 {
     match kind {
         1 => CYCLE,

@@ -1,16 +1,16 @@
 -- The counts of one farm: those of its own calls' answers, added up; so the others' do not matter.
 use mathlib.Core.Path.{_≡_, refl, sym, ap, _∙_}
-use mathlib.Core.Bool.{Bool, true, false, cond, not, _&&_, false≢true}
+use mathlib.Core.Bool.{Bool, true, false, _&&_, false≢true}
 use mathlib.Core.List.{List, [], _∷_}
-use Prim.Native.Nat.{ℕ, zero, suc, _+_, _-_, _*_, _≤_, _<_}
+use Prim.Native.Nat.{ℕ, _+_, _-_, _*_, _≤_, _<_}
 use native.Mathlib.Omega.{arith}
 use native.Mathlib.Decide.{decLt}
 use lib.Dec.{eqb, leb}
 use lib.ListN.{length}
-use borrow.Author.Tests.{eqb-true, eqb-false, leb-true, not-false, le-leb}
+use borrow.Author.Tests.{eqb-true, eqb-false, leb-true, le-leb}
 use borrow.Table.Steps.{cases}
 use Rattle.codes.proofs.Demand.{both}
-use Rattle.station.specs.Parts.{farms, stationSize, partOf}
+use Rattle.station.specs.Parts.{farms}
 use Rattle.station.specs.Runs.{runAnswers, answersTo, SameSeen}
 use Rattle.station.specs.Isolation.{answer, after, machine, Isolated}
 use Rattle.station.specs.Calls.{Call, Answer, toCycle, toFrame, owner, kinds}
@@ -21,7 +21,7 @@ use Rattle.journal.specs.History.{doneBy, history}
 use Rattle.season.specs.declared.Turn.{Turn}
 use Rattle.season.specs.declared.Turn.the-variants.{Counted, Bad, Over}
 use Rattle.season.specs.Season.{counted, countsOf, withCounts, plus, reaches, Season, added, turn, next, count}
-use Rattle.season.specs.Laws.{Tallied, FarmsApart}
+use Rattle.season.specs.Laws.{FarmsApart}
 use Rattle.season.proofs.Sums.{plus-length}
 
 ten-counts : (a : Answer) → length (counted a) ≡ 10

@@ -3,3 +3,4 @@ pub mod Adds
 pub mod Whole
 pub mod Farms
 pub mod Worked
+pub mod Instances

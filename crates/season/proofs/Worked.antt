@@ -1,6 +1,5 @@
 -- A cycle counts in one state; and the worked calls of 01 count as 02 says.
 use mathlib.Core.Path.{_≡_, refl, ap, _∙_}
-use mathlib.Core.Bool.{true, false}
 use mathlib.Core.List.{List, [], _∷_, map}
 use Prim.Native.Nat.{ℕ, zero, suc, _*_}
 use lib.Dec.{eqb, eqb·suc-zero}
@@ -20,7 +19,7 @@ use Rattle.station.specs.Laws.{numberIn}
 use Rattle.station.specs.Worked.{workedCalls}
 use Rattle.station.proofs.Worked.{worked-by-hand}
 use Rattle.journal.specs.History.{Done, history}
-use Rattle.season.specs.Season.{one, counted, Season, added, turn, count}
+use Rattle.season.specs.Season.{one, counted, added, turn, count}
 use Rattle.season.specs.Laws.{sum, OneState, WorkedSeason}
 
 -- a state is one of six

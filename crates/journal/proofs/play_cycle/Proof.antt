@@ -1,11 +1,9 @@
 -- The line of what the host is told.
 use Prim.Native.Nat.{_≤_}
 use mathlib.Core.Path.{sym, ap}
-use mathlib.Core.List.{_++_}
 use native.Mathlib.Omega.{arith}
 use lib.ListN.{length}
 use denote.Ref.{now}
-use Rattle.station.specs.Calls.{Answer}
 use Rattle.journal.specs.Line.{cycleCall, lineOf}
 use Rattle.journal.proofs.Pieces.{wrote-first, promised-first, and-then, said, char}
 use borrow.Author.Needs.{needs}

@@ -1,6 +1,6 @@
 -- The line of what was answered, with the reply at the start of its memory.
 use Prim.Native.Nat.{_≤_}
-use mathlib.Core.Path.{sym, ap, refl}
+use mathlib.Core.Path.{sym, ap}
 use native.Mathlib.Omega.{arith}
 use lib.ListN.{length}
 use denote.Ref.{now}

@@ -23,13 +23,13 @@ returns-2 : tie.Need-returns-2
 unfolding nextRecord
 returns-2 c =
     let bs = now (c .before .before .before .before .before .args .left) in
-    (omega (arith, c .before .record-length .ensures .0, length-take (recordLength (getD bs 0 0)) bs), omega arith)
+    (omega (arith, c .before .record-length .ensures, length-take (recordLength (getD bs 0 0)) bs), omega arith)
 
 returns-3 : tie.Need-returns-3
 unfolding nextRecord
 returns-3 c =
     let bs = now (c .before .before .before .before .before .args .left) in
-    (omega (arith, c .before .record-length .ensures .0, length-take (recordLength (getD bs 0 0)) bs), omega arith)
+    (omega (arith, c .before .record-length .ensures, length-take (recordLength (getD bs 0 0)) bs), omega arith)
 
 pub next-length-spec : {M : Type 1} → statement M
 next-length-spec =

@@ -1,0 +1,42 @@
+-- The laws of specs/Laws.antt at work: one that is made weaker fails here.
+use mathlib.Core.Path.{Path, _≡_, refl, sym, ap, _∙_}
+use mathlib.Core.Bool.{true, false}
+use mathlib.Core.List.{List, [], _∷_, _++_, append-nil}
+use Prim.Native.Nat.{ℕ}
+use native.Mathlib.Omega.{arith}
+use lib.ListN.{length}
+use Rattle.codes.specs.Code.{AllOf}
+use Rattle.journal.specs.Line.{nextRecord, pastRecord, isRecord, recordLine, badLine}
+use Rattle.journal.specs.History.{Parted, parted, replayFrom}
+use Rattle.journal.specs.Laws.{joined, pieces, played}
+use Rattle.journal.proofs.Whole.{parted-as-written, every-journal, enough-bytes, plays-whole}
+
+-- PartedAsWritten: two records and a byte that is none
+module _ (q r : List ℕ) (first : isRecord q ≡ true) (second : isRecord r ≡ true) where
+  two-and-bad : Path Parted (parted ((q ++ (r ++ [])) ++ (0xFF ∷ []))) (record { records = q ∷ r ∷ []; left = 0xFF ∷ [] })
+  unfolding nextRecord isRecord
+  two-and-bad = parted-as-written (q ∷ r ∷ []) (0xFF ∷ []) (first, (second, tt)) refl
+
+  two-and-end : Path Parted (parted ((q ++ (r ++ [])) ++ [])) (record { records = q ∷ r ∷ []; left = [] })
+  unfolding nextRecord isRecord
+  two-and-end = parted-as-written (q ∷ r ∷ []) [] (first, (second, tt)) refl
+
+-- EveryJournal: where nothing is left the records are all of it, each is one, and what is left begins with none
+module _ (bs : List ℕ) where
+  all-of-it : parted bs .left ≡ [] → joined (parted bs .records) ≡ bs
+  all-of-it none = sym (append-nil (joined (parted bs .records))) ∙ (ap (λ (l : List ℕ). joined (parted bs .records) ++ l) (sym none) ∙ every-journal bs .bytes)
+
+  records-all : AllOf (λ r. isRecord r ≡ true) (parted bs .records)
+  records-all = every-journal bs .each
+
+  left-begins-bad : isRecord (nextRecord (parted bs .left)) ≡ false
+  left-begins-bad = every-journal bs .stops
+
+-- EnoughBytes: 247, whatever follows
+enough : (bs more : List ℕ) → length bs ≡ 247 → nextRecord (bs ++ more) ≡ nextRecord bs
+enough bs more long = enough-bytes bs more (omega arith)
+
+-- PlaysWhole: a kind that is none ends the run with its word, whatever follows it
+bad-ends : (s : List ℕ) → replayFrom (0x00 ∷ 0x01 ∷ []) s ≡ badLine
+unfolding played pieces nextRecord pastRecord isRecord recordLine
+bad-ends s = sym (plays-whole (0x00 ∷ 0x01 ∷ []) s)
