@@ -16,7 +16,7 @@ use Rattle.station.specs.Isolation.{answer, after}
 use Rattle.journal.specs.Line.{recordLength, cycleRecord, frameRecord, cycleCall, frameLength, frameCall, isCycle, isFrame, isRecord, callOf, lineOf, badLine, recordLine, recordAfter}
 use Rattle.journal.specs.declared.Did.{Did}
 use Rattle.journal.specs.declared.Did.the-variants.{Bad}
-use Rattle.journal.specs.History.{told, didOf}
+use Rattle.journal.specs.History.{didBy, didOf}
 use Rattle.journal.proofs.Pieces.{wrote-first, from-start}
 
 -- bytes tested for 0, from a place on
@@ -67,15 +67,15 @@ module _ (r s : List ℕ) where
     pub good : isRecord r ≡ g
 
   -- a record, by its call
-  comes : (c : Call) → isRecord r ≡ true → callOf r ≡ c → Comes (lineOf c (answer kinds c s)) (after kinds c s) (told c (answer kinds c s)) true
+  comes : (c : Call) → isRecord r ≡ true → callOf r ≡ c → Comes (lineOf c (answer kinds c s)) (after kinds c s) (didBy c (answer kinds c s)) true
   unfolding recordLine recordAfter didOf
   comes c good call = record { line = rw (good, call); after = rw (good, call); did = rw (good, call); good = good }
 
-  pub comes-cycle : isCycle r ≡ true → Comes (lineOf (cycleCall r) (answer kinds (cycleCall r) s)) (after kinds (cycleCall r) s) (told (cycleCall r) (answer kinds (cycleCall r) s)) true
+  pub comes-cycle : isCycle r ≡ true → Comes (lineOf (cycleCall r) (answer kinds (cycleCall r) s)) (after kinds (cycleCall r) s) (didBy (cycleCall r) (answer kinds (cycleCall r) s)) true
   unfolding isRecord callOf
   comes-cycle h = comes (cycleCall r) (rw h) (rw h)
 
-  pub comes-frame : isCycle r ≡ false → isFrame r ≡ true → Comes (lineOf (frameCall r) (answer kinds (frameCall r) s)) (after kinds (frameCall r) s) (told (frameCall r) (answer kinds (frameCall r) s)) true
+  pub comes-frame : isCycle r ≡ false → isFrame r ≡ true → Comes (lineOf (frameCall r) (answer kinds (frameCall r) s)) (after kinds (frameCall r) s) (didBy (frameCall r) (answer kinds (frameCall r) s)) true
   unfolding isRecord callOf
   comes-frame g h = comes (frameCall r) (rw (g, h)) (rw g)
 

@@ -66,10 +66,10 @@ abbrev pub replayOf : List ℕ → List ℕ
 replayOf bs = replayFrom bs (freshParts farms)
 
 -- whose call it was, and its answer but for the reply
-abbrev pub told : Call → Answer → Did
-told c (toCycle d) = Cycle (owner c) d
-told c (toFrame f reply) = Frame (owner c) f
+abbrev pub didBy : Call → Answer → Did
+didBy c (toCycle d) = Cycle (owner c) d
+didBy c (toFrame f reply) = Frame (owner c) f
 
 -- what the bytes r do on the station s, told by `act`
 unfoldable pub didOf : List ℕ → List ℕ → Did
-didOf r s = cond (isRecord r) (told (callOf r) (answer kinds (callOf r) s)) Bad
+didOf r s = cond (isRecord r) (didBy (callOf r) (answer kinds (callOf r) s)) Bad

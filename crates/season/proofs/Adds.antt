@@ -14,10 +14,10 @@ use Rattle.station.specs.Isolation.{answer}
 use Rattle.journal.specs.declared.Did.{Did}
 use Rattle.journal.specs.declared.Did.the-variants.{Cycle, Frame, Bad}
 use Rattle.journal.specs.Line.{isRecord, callOf}
-use Rattle.journal.specs.History.{told, didOf}
+use Rattle.journal.specs.History.{didBy, didOf}
 use Rattle.season.specs.declared.Turn.{Turn}
 use Rattle.season.specs.declared.Turn.the-variants.{Counted, Bad as NoRecord, Over}
-use Rattle.season.specs.Season.{counted, plus, reaches, Season, added, turn, stepOf}
+use Rattle.season.specs.Season.{answerCounts, plus, reaches, Season, added, turn, stepOf}
 
 ten : (k : ℕ) → (k - 1) * 10 + 10 - (k - 1) * 10 ≡ 10
 ten k = omega arith
@@ -50,15 +50,15 @@ module _ (k : ℕ) (counts totals : List ℕ) where
 
 -- what is counted of what a record did
 abbrev pub ofDid : Did → List ℕ → Season
-ofDid (Cycle k c) totals = added k (counted (toCycle c)) totals
-ofDid (Frame k f) totals = added k (counted (toFrame f [])) totals
+ofDid (Cycle k c) totals = added k (answerCounts (toCycle c)) totals
+ofDid (Frame k f) totals = added k (answerCounts (toFrame f [])) totals
 ofDid Bad totals = record { totals = totals; last = NoRecord }
 
-of-told : (c : Call) (a : Answer) (totals : List ℕ) → added (owner c) (counted a) totals ≡ ofDid (told c a) totals
-of-told c (toCycle d) totals = refl
-of-told c (toFrame f reply) totals = refl
+of-did : (c : Call) (a : Answer) (totals : List ℕ) → added (owner c) (answerCounts a) totals ≡ ofDid (didBy c a) totals
+of-did c (toCycle d) totals = refl
+of-did c (toFrame f reply) totals = refl
 
 pub step-of : (r s totals : List ℕ) → stepOf r s totals ≡ ofDid (didOf r s) totals
 unfolding stepOf didOf turn
 step-of r s totals =
-    cases (isRecord r) (λ is. rw is (of-told (callOf r) (answer kinds (callOf r) s) totals)) (λ isnt. rw isnt)
+    cases (isRecord r) (λ is. rw is (of-did (callOf r) (answer kinds (callOf r) s) totals)) (λ isnt. rw isnt)

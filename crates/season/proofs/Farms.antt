@@ -20,11 +20,11 @@ use Rattle.station.proofs.Sizes.{isolated-station}
 use Rattle.journal.specs.History.{doneBy, history}
 use Rattle.season.specs.declared.Turn.{Turn}
 use Rattle.season.specs.declared.Turn.the-variants.{Counted, Bad, Over}
-use Rattle.season.specs.Season.{counted, countsOf, withCounts, plus, reaches, Season, added, turn, next, count}
+use Rattle.season.specs.Season.{answerCounts, farmCounts, withCounts, plus, reaches, Season, added, turn, next, count}
 use Rattle.season.specs.Laws.{FarmsApart}
 use Rattle.season.proofs.Sums.{plus-length}
 
-ten-counts : (a : Answer) → length (counted a) ≡ 10
+ten-counts : (a : Answer) → length (answerCounts a) ≡ 10
 ten-counts (toCycle c) = refl
 ten-counts (toFrame f reply) = refl
 
@@ -40,10 +40,10 @@ isCounted Over = false
 -- what adding the ten counts of an answer for farm j does to those of farm k
 module _ (j : ℕ) (counts totals : List ℕ) (ten : length counts ≡ 10) (size : length totals ≡ farms * 10) where
   abbrev sums : List ℕ
-  sums = plus (countsOf j totals) counts
+  sums = plus (farmCounts j totals) counts
 
   sums-ten : 1 ≤ j → j ≤ farms → length sums ≡ 10
-  sums-ten low high = plus-length (countsOf j totals) counts (length-window ((j - 1) * 10) 10 totals (inside j totals low high size) ∙ sym ten) ∙ ten
+  sums-ten low high = plus-length (farmCounts j totals) counts (length-window ((j - 1) * 10) 10 totals (inside j totals low high size) ∙ sym ten) ∙ ten
 
   -- by the three ways that it goes
   module _ (P : Season → Type 0)
@@ -56,7 +56,7 @@ module _ (j : ℕ) (counts totals : List ℕ) (ten : length counts ≡ 10) (size
         (λ is.
         let b = both (leb 1 j) (leb j farms) is in
         rw is
-        (cases (reaches (plus (countsOf j totals) counts)) (λ over. rw over (as-was Over))
+        (cases (reaches (plus (farmCounts j totals) counts)) (λ over. rw over (as-was Over))
         (λ fits. rw fits (grown (leb-true 1 j (b .0)) (leb-true j farms (b .1))))))
         (λ isnt. rw isnt (as-was Counted))
 
@@ -66,10 +66,10 @@ module _ (j : ℕ) (counts totals : List ℕ) (ten : length counts ≡ 10) (size
       (λ low high. length-with ((j - 1) * 10) 10 sums totals (inside j totals low high size) (sums-ten low high) ∙ size)
 
   -- another farm's
-  apart : (k : ℕ) → 1 ≤ k → k ≤ farms → (j ≡ k → ⊥) → countsOf k (added j counts totals .totals) ≡ countsOf k totals
-  apart k low high differs = ways (λ c. countsOf k (c .totals) ≡ countsOf k totals) (λ l. refl) (λ lo hi. beside lo hi (decLt j k) (decLt k j))
+  apart : (k : ℕ) → 1 ≤ k → k ≤ farms → (j ≡ k → ⊥) → farmCounts k (added j counts totals .totals) ≡ farmCounts k totals
+  apart k low high differs = ways (λ c. farmCounts k (c .totals) ≡ farmCounts k totals) (λ l. refl) (λ lo hi. beside lo hi (decLt j k) (decLt k j))
     where
-      beside : 1 ≤ j → j ≤ farms → Dec (j < k) → Dec (k < j) → countsOf k (withCounts j sums totals) ≡ countsOf k totals
+      beside : 1 ≤ j → j ≤ farms → Dec (j < k) → Dec (k < j) → farmCounts k (withCounts j sums totals) ≡ farmCounts k totals
       beside lo hi (yes h) m =
           window-after ((j - 1) * 10) 10 sums totals (inside j totals lo hi size) (sums-ten lo hi) ((k - 1) * 10) 10
           (ends j (k - 1) 10 lo (omega arith)) (inside k totals low high size)
@@ -79,10 +79,10 @@ module _ (j : ℕ) (counts totals : List ℕ) (ten : length counts ≡ 10) (size
       beside lo hi (no h) (no m) = absurd (differs (omega arith))
 
   -- its own
-  own : 1 ≤ j → j ≤ farms → added j counts totals .last ≡ Counted → countsOf j (added j counts totals .totals) ≡ sums
+  own : 1 ≤ j → j ≤ farms → added j counts totals .last ≡ Counted → farmCounts j (added j counts totals .totals) ≡ sums
   unfolding added isCounted
   own low high e =
-      cases (reaches (plus (countsOf j totals) counts))
+      cases (reaches (plus (farmCounts j totals) counts))
       (λ over.
       let at : added j counts totals .last ≡ Over = rw (le-leb 1 j low, le-leb j farms high, over) in
       absurd (false≢true (ap isCounted (sym at ∙ e))))
@@ -92,7 +92,7 @@ module _ (j : ℕ) (counts totals : List ℕ) (ten : length counts ≡ 10) (size
 -- answers counted one after the other
 summed : List Answer → List ℕ → List ℕ
 summed [] counts = counts
-summed (a ∷ more) counts = summed more (plus counts (counted a))
+summed (a ∷ more) counts = summed more (plus counts (answerCounts a))
 
 -- what came to its end went on
 went-on : (l : Turn) (totals : List ℕ) (more : List ℕ → Season) → next l totals more .last ≡ Counted → (l ≡ Counted) × (next l totals more ≡ more totals)
@@ -107,30 +107,30 @@ module _ (k : ℕ) (low : 1 ≤ k) (high : k ≤ farms) where
 
   -- one turn, of the farm's own call and of another's
   turn-own : (c : Call) (s totals : List ℕ) → length totals ≡ farms * 10 → owner c ≡ k → turn (doneBy c s) totals .last ≡ Counted
-      → countsOf k (turn (doneBy c s) totals .totals) ≡ plus (countsOf k totals) (counted (answer kinds c s))
+      → farmCounts k (turn (doneBy c s) totals .totals) ≡ plus (farmCounts k totals) (answerCounts (answer kinds c s))
   unfolding turn
   turn-own c s totals size mine e =
-      ap (λ (x : ℕ). countsOf x (added (owner c) (counted (answer kinds c s)) totals .totals)) (sym mine)
-      ∙ (own (owner c) (counted (answer kinds c s)) totals (ten-counts (answer kinds c s)) size (rw mine low) (rw mine high) e
-      ∙ ap (λ (x : ℕ). plus (countsOf x totals) (counted (answer kinds c s))) mine)
+      ap (λ (x : ℕ). farmCounts x (added (owner c) (answerCounts (answer kinds c s)) totals .totals)) (sym mine)
+      ∙ (own (owner c) (answerCounts (answer kinds c s)) totals (ten-counts (answer kinds c s)) size (rw mine low) (rw mine high) e
+      ∙ ap (λ (x : ℕ). plus (farmCounts x totals) (answerCounts (answer kinds c s))) mine)
 
-  turn-other : (c : Call) (s totals : List ℕ) → length totals ≡ farms * 10 → (owner c ≡ k → ⊥) → countsOf k (turn (doneBy c s) totals .totals) ≡ countsOf k totals
+  turn-other : (c : Call) (s totals : List ℕ) → length totals ≡ farms * 10 → (owner c ≡ k → ⊥) → farmCounts k (turn (doneBy c s) totals .totals) ≡ farmCounts k totals
   unfolding turn
-  turn-other c s totals size other = apart (owner c) (counted (answer kinds c s)) totals (ten-counts (answer kinds c s)) size k low high other
+  turn-other c s totals size other = apart (owner c) (answerCounts (answer kinds c s)) totals (ten-counts (answer kinds c s)) size k low high other
 
   turn-size : (c : Call) (s totals : List ℕ) → length totals ≡ farms * 10 → length (turn (doneBy c s) totals .totals) ≡ farms * 10
   unfolding turn
-  turn-size c s totals size = same-size (owner c) (counted (answer kinds c s)) totals (ten-counts (answer kinds c s)) size
+  turn-size c s totals size = same-size (owner c) (answerCounts (answer kinds c s)) totals (ten-counts (answer kinds c s)) size
 
   -- so the farm's counts are its answers, summed
   folded : (cs : List Call) (s totals : List ℕ) → length totals ≡ farms * 10 → count (history cs s) totals .last ≡ Counted
-      → countsOf k (count (history cs s) totals .totals) ≡ summed (answersOf cs s) (countsOf k totals)
+      → farmCounts k (count (history cs s) totals .totals) ≡ summed (answersOf cs s) (farmCounts k totals)
   unfolding count history answersTo runAnswers summed
   folded [] s totals size e = refl
   folded (c ∷ cs) s totals size e =
       let t = turn (doneBy c s) totals in
       let w = went-on (t .last) (t .totals) (count (history cs (after kinds c s))) e in
-      let rest = ap (λ (x : Season). countsOf k (x .totals)) (w .1) ∙ folded cs (after kinds c s) (t .totals) (turn-size c s totals size) (ap (λ (x : Season). x .last) (sym (w .1)) ∙ e) in
+      let rest = ap (λ (x : Season). farmCounts k (x .totals)) (w .1) ∙ folded cs (after kinds c s) (t .totals) (turn-size c s totals size) (ap (λ (x : Season). x .last) (sym (w .1)) ∙ e) in
       cases (eqb (owner c) k)
       (λ mine. rw mine (rest ∙ ap (summed (answersOf cs (after kinds c s))) (turn-own c s totals size (eqb-true (owner c) k mine) (w .0))))
       (λ other. rw other (rest ∙ ap (summed (answersOf cs (after kinds c s))) (turn-other c s totals size (eqb-false (owner c) k other))))

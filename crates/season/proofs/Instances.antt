@@ -13,7 +13,7 @@ use Rattle.journal.specs.Line.{nextRecord, pastRecord, isRecord}
 use Rattle.journal.specs.History.{history}
 use Rattle.journal.specs.Laws.{pieces}
 use Rattle.season.specs.declared.Turn.the-variants.{Bad}
-use Rattle.season.specs.Season.{one, counted, countsOf, Season, count, seasonFrom, stepOf}
+use Rattle.season.specs.Season.{one, answerCounts, farmCounts, Season, count, seasonFrom, stepOf}
 use Rattle.season.specs.Laws.{stepped, sum, Tallied}
 use Rattle.season.proofs.Whole.{counts-whole}
 use Rattle.season.proofs.Farms.{farms-apart}
@@ -26,20 +26,20 @@ bad-ends s totals = sym (counts-whole (0x00 ∷ 0x01 ∷ []) s totals)
 
 -- OneState: both ways
 module _ (i : Sent) (s : List ℕ) where
-  in-one : numberIn (answer kinds (cycle 16 i) s) ≡ 0 → sum (take 6 (counted (answer kinds (cycle 16 i) s))) ≡ 1
+  in-one : numberIn (answer kinds (cycle 16 i) s) ≡ 0 → sum (take 6 (answerCounts (answer kinds (cycle 16 i) s))) ≡ 1
   in-one e = one-state 16 i s ∙ ap (λ (n : ℕ). one (eqb n 0)) e
 
-  in-none : numberIn (answer kinds (cycle 16 i) s) ≡ 12 → sum (take 6 (counted (answer kinds (cycle 16 i) s))) ≡ 0
+  in-none : numberIn (answer kinds (cycle 16 i) s) ≡ 12 → sum (take 6 (answerCounts (answer kinds (cycle 16 i) s))) ≡ 0
   in-none e = one-state 16 i s ∙ ap (λ (n : ℕ). one (eqb n 0)) e
 
 -- FarmsApart: farm 2's frames and cycles leave no trace in the counts of farms 1 and 16
 module _ (f m : List ℕ) (i : Sent) (cs : List Call) (s totals : List ℕ)
     (beside : Tallied (frame 2 f m ∷ cycle 2 i ∷ cs) s totals) (alone : Tallied cs s totals) where
-  first : countsOf 1 (count (history (frame 2 f m ∷ cycle 2 i ∷ cs) s) totals .totals) ≡ countsOf 1 (count (history cs s) totals .totals)
+  first : farmCounts 1 (count (history (frame 2 f m ∷ cycle 2 i ∷ cs) s) totals .totals) ≡ farmCounts 1 (count (history cs s) totals .totals)
   unfolding callsBy
   first = farms-apart 1 (lit≤ tt) (lit≤ tt) (frame 2 f m ∷ cycle 2 i ∷ cs) s totals beside cs s totals alone refl refl refl
 
-  sixteenth : countsOf 16 (count (history (frame 2 f m ∷ cycle 2 i ∷ cs) s) totals .totals) ≡ countsOf 16 (count (history cs s) totals .totals)
+  sixteenth : farmCounts 16 (count (history (frame 2 f m ∷ cycle 2 i ∷ cs) s) totals .totals) ≡ farmCounts 16 (count (history cs s) totals .totals)
   unfolding callsBy
   sixteenth = farms-apart 16 (lit≤ tt) (lit≤ tt) (frame 2 f m ∷ cycle 2 i ∷ cs) s totals beside cs s totals alone refl refl refl
 

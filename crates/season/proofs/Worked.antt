@@ -19,11 +19,11 @@ use Rattle.station.specs.Laws.{numberIn}
 use Rattle.station.specs.Worked.{workedCalls}
 use Rattle.station.proofs.Worked.{worked-by-hand}
 use Rattle.journal.specs.History.{Done, history}
-use Rattle.season.specs.Season.{one, counted, added, turn, count}
+use Rattle.season.specs.Season.{one, answerCounts, added, turn, count}
 use Rattle.season.specs.Laws.{sum, OneState, WorkedSeason}
 
 -- a state is one of six
-six : (o : Output) (s : State) → o .state ≡ s → sum (take 6 (counted (toCycle (cycled o)))) ≡ 1
+six : (o : Output) (s : State) → o .state ≡ s → sum (take 6 (answerCounts (toCycle (cycled o)))) ≡ 1
 six o S1 e = rw e
 six o S2 e = rw e
 six o S3 e = rw e
@@ -32,7 +32,7 @@ six o S51 e = rw e
 six o S52 e = rw e
 
 abbrev Once : Answer → Type 0
-Once a = sum (take 6 (counted a)) ≡ one (eqb (numberIn a) 0)
+Once a = sum (take 6 (answerCounts a)) ≡ one (eqb (numberIn a) 0)
 
 on-part : (k : ℕ) (i : Sent) (p : List ℕ) → Once (toCycle (cycleAnswer k i p))
 unfolding cycleAnswer

@@ -15,7 +15,7 @@ use Rattle.journal.specs.Line.{recordAfter}
 use Rattle.journal.specs.History.{history}
 use Rattle.journal.specs.Laws.{pieces}
 use Rattle.season.specs.declared.Turn.the-variants.{Counted}
-use Rattle.season.specs.Season.{one, counted, countsOf, Season, andThen, count, seasonFrom, stepOf}
+use Rattle.season.specs.Season.{one, answerCounts, farmCounts, Season, andThen, count, seasonFrom, stepOf}
 
 -- A program counts a journal by the piece: what `step` counts of pieces one after the other, up to the first that does not count,
 unfoldable pub stepped : List (List ℕ) → List ℕ → List ℕ → Season
@@ -34,7 +34,7 @@ sum (n ∷ ns) = n + sum ns
 abbrev pub OneState : Type 0
 OneState =
     (axis : ℕ) (i : Sent) (s : List ℕ)
-    → let a = answer kinds (cycle axis i) s in sum (take 6 (counted a)) ≡ one (eqb (numberIn a) 0)
+    → let a = answer kinds (cycle axis i) s in sum (take 6 (answerCounts a)) ≡ one (eqb (numberIn a) 0)
 
 -- the calls of farm k among others
 abbrev pub callsOf : ℕ → List Call → List Call
@@ -52,8 +52,8 @@ FarmsApart =
     (k : ℕ) → 1 ≤ k → k ≤ farms
     → (cs : List Call) (s totals : List ℕ) → Tallied cs s totals
     → (ds : List Call) (t others : List ℕ) → Tallied ds t others
-    → partOf k s ≡ partOf k t → countsOf k totals ≡ countsOf k others → callsOf k cs ≡ callsOf k ds
-    → countsOf k (count (history cs s) totals .totals) ≡ countsOf k (count (history ds t) others .totals)
+    → partOf k s ≡ partOf k t → farmCounts k totals ≡ farmCounts k others → callsOf k cs ≡ callsOf k ds
+    → farmCounts k (count (history cs s) totals .totals) ≡ farmCounts k (count (history ds t) others .totals)
 
 -- the worked calls of 01, on a fresh station: farm 1's counts, and farm 2's
 abbrev pub WorkedSeason : Type 0

@@ -6,7 +6,7 @@ use Rattle.journal.specs.Text.{decimal}
 use Rattle.journal.specs.Line.{space, badLine}
 use Rattle.season.specs.declared.Turn.{Turn}
 use Rattle.season.specs.declared.Turn.the-variants.{Counted, Bad, Over}
-use Rattle.season.specs.Season.{countsOf, seasonOf}
+use Rattle.season.specs.Season.{farmCounts, seasonOf}
 
 -- numbers in decimal, each after a space
 abbrev pub spaced : List ℕ → List ℕ
@@ -15,7 +15,7 @@ spaced (n ∷ ns) = (space ∷ decimal n) ++ spaced ns
 
 -- "`r`, the farm and the ten counts"
 unfoldable pub farmLine : ℕ → List ℕ → List ℕ
-farmLine k totals = 0x72 ∷ spaced (k ∷ countsOf k totals) ++ (0x0A ∷ [])
+farmLine k totals = 0x72 ∷ spaced (k ∷ farmCounts k totals) ++ (0x0A ∷ [])
 
 -- the lines of farms 1 to k, "in farm order"
 unfoldable pub linesTo : ℕ → List ℕ → List ℕ
@@ -24,13 +24,13 @@ linesTo (suc k) totals = linesTo k totals ++ farmLine (suc k) totals
 
 -- "A `bad` record ends the report with the totals so far and that word. Refusals: 13, a count would reach 2^64; it ends with the
 -- totals before that record and `x 13`."
-abbrev pub endLine : Turn → List ℕ
-endLine Counted = []
-endLine Bad = badLine
-endLine Over = 0x78 ∷ spaced (13 ∷ []) ++ (0x0A ∷ [])
+abbrev pub lastLine : Turn → List ℕ
+lastLine Counted = []
+lastLine Bad = badLine
+lastLine Over = 0x78 ∷ spaced (13 ∷ []) ++ (0x0A ∷ [])
 
 unfoldable pub reportText : List ℕ → Turn → List ℕ
-reportText totals last = linesTo farms totals ++ endLine last
+reportText totals last = linesTo farms totals ++ lastLine last
 
 -- the whole report of a journal
 abbrev pub reportOf : List ℕ → List ℕ

@@ -17,8 +17,8 @@ abbrev pub one : Bool → ℕ
 one b = cond b 1 0
 
 -- What an answer counts. "A cycle counts for its axis's farm in the state it ends in": a refused one ends in none, and did nothing.
-abbrev pub counted : Answer → List ℕ
-counted (toCycle c) =
+abbrev pub answerCounts : Answer → List ℕ
+answerCounts (toCycle c) =
     one (eqb (c .told .state) 1)
     ∷ one (eqb (c .told .state) 2)
     ∷ one (eqb (c .told .state) 3)
@@ -30,11 +30,11 @@ counted (toCycle c) =
     ∷ 0
     ∷ 0
     ∷ []
-counted (toFrame f reply) = 0 ∷ 0 ∷ 0 ∷ 0 ∷ 0 ∷ 0 ∷ 0 ∷ 0 ∷ one (eqb (f .number) 11) ∷ f .stored ∷ []
+answerCounts (toFrame f reply) = 0 ∷ 0 ∷ 0 ∷ 0 ∷ 0 ∷ 0 ∷ 0 ∷ 0 ∷ one (eqb (f .number) 11) ∷ f .stored ∷ []
 
 -- the ten counts of farm k among the totals of all farms, and the totals with others for them
-abbrev pub countsOf : ℕ → List ℕ → List ℕ
-countsOf k totals = window ((k - 1) * 10) 10 totals
+abbrev pub farmCounts : ℕ → List ℕ → List ℕ
+farmCounts k totals = window ((k - 1) * 10) 10 totals
 
 abbrev pub withCounts : ℕ → List ℕ → List ℕ → List ℕ
 withCounts k ns totals = withWindow ((k - 1) * 10) 10 ns totals
@@ -58,14 +58,14 @@ pub record Season : Type 0 where
 -- Counts added for farm k; nowhere where there is no such farm. "Refusals: 13, a count would reach 2^64": then none of them is added.
 unfoldable pub added : ℕ → List ℕ → List ℕ → Season
 added k counts totals =
-    let ns = plus (countsOf k totals) counts in
+    let ns = plus (farmCounts k totals) counts in
     cond (not (leb 1 k && leb k farms)) (record { totals = totals; last = Counted })
     (cond (reaches ns) (record { totals = totals; last = Over })
     (record { totals = withCounts k ns totals; last = Counted }))
 
 -- One turn: what a record did is counted for its farm: a cycle's is "its axis's farm", a frame's "its sender".
 unfoldable pub turn : Done → List ℕ → Season
-turn d totals = added (owner (d .call)) (counted (d .answer)) totals
+turn d totals = added (owner (d .call)) (answerCounts (d .answer)) totals
 
 -- what comes next is counted only where the last record was
 abbrev pub next : Turn → List ℕ → (List ℕ → Season) → Season

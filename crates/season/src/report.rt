@@ -4,7 +4,7 @@ ghost use mathlib.Core.List.{_++_};
 ghost use Prim.Native.Nat.{_+_, _*_, _≤_};
 ghost use lib.ListN.{length, drop};
 ghost use Rattle.codes.specs.Number.{put};
-ghost use Rattle.season.specs.Report.{spaced, farmLine, linesTo, endLine, reportText};
+ghost use Rattle.season.specs.Report.{spaced, farmLine, linesTo, lastLine, reportText};
 use super::COUNTS;
 use super::EACH;
 use super::FARMS;
@@ -60,8 +60,8 @@ fn put_lines(totals: &[u64], text: &mut [u8]) -> usize
 // What ends a report.
 fn put_end(last: Turn, text: &mut [u8], at: usize) -> usize
     requires { ⌜ at + 5 ≤ length (now text) ⌝ }
-    ensures { λ r. ⌜ now (text .exit) ≡ put (now (text .entry)) at (endLine last) ⌝ }
-    ensures { λ r. ⌜ (r ≡ at + length (endLine last)) × (r ≤ at + 5) ⌝ }
+    ensures { λ r. ⌜ now (text .exit) ≡ put (now (text .entry)) at (lastLine last) ⌝ }
+    ensures { λ r. ⌜ (r ≡ at + length (lastLine last)) × (r ≤ at + 5) ⌝ }
 {
     match last {
         Turn::Counted => at,

@@ -4,7 +4,7 @@ ghost use mathlib.Core.Bool.{false, not};
 ghost use mathlib.Core.List.{[]};
 ghost use lib.ListN.{length};
 ghost use Rattle.station.specs.Calls.{toCycle, toFrame};
-ghost use Rattle.season.specs.Season.{one, counted, plus, reaches, added};
+ghost use Rattle.season.specs.Season.{one, answerCounts, plus, reaches, added};
 use super::EACH;
 use super::FARMS;
 use super::Turn;
@@ -19,7 +19,7 @@ fn one(b: bool) -> u64
 
 // What a cycle counts.
 pub(crate) fn of_cycle(c: CycleDone) -> [u64; EACH]
-    ensures { λ r. ⌜ r ≡ counted (toCycle c) ⌝ }
+    ensures { λ r. ⌜ r ≡ answerCounts (toCycle c) ⌝ }
 {
     let told = c.told;
     let state = told.state;
@@ -37,7 +37,7 @@ pub(crate) fn of_cycle(c: CycleDone) -> [u64; EACH]
 
 // What a frame counts.
 pub(crate) fn of_frame(f: Framed) -> [u64; EACH]
-    ensures { λ r. ⌜ r ≡ counted (toFrame f []) ⌝ }
+    ensures { λ r. ⌜ r ≡ answerCounts (toFrame f []) ⌝ }
 {
     let mut counts = [0u64; EACH];
     counts[8] = one(f.number == 11);

@@ -1,7 +1,7 @@
 -- The pieces of the line one after the other.
 use Rattle.journal.proofs.Pieces.{Wrote, wrote, promised, wrote-many, and-then, said}
 use Rattle.station.specs.Parts.{window}
-use Rattle.season.specs.Season.{countsOf}
+use Rattle.season.specs.Season.{farmCounts}
 use Rattle.season.specs.Report.{spaced, farmLine}
 use lib.ListN.{take, drop}
 use Prim.Native.Nat.{ℕ, _+_, _-_, _*_}
@@ -75,7 +75,7 @@ returns c =
     let room = entry .pre .1 .1 .1 in
     let first = (a .farm - 1) * 10 in
     let n : 10 ≡ first + 10 - first = omega arith in
-    let ten : Wrote _ _ (spaced (countsOf (a .farm) (now (a .totals)))) _ _ = said (wrote (counts .put-spaced .ensures)) (ap (λ (k : ℕ). spaced (take k (drop first (now (a .totals))))) n) in
+    let ten : Wrote _ _ (spaced (farmCounts (a .farm) (now (a .totals)))) _ _ = said (wrote (counts .put-spaced .ensures)) (ap (λ (k : ℕ). spaced (take k (drop first (now (a .totals))))) n) in
     let head = and-then (wrote-many (letter .put-bytes .ensures) refl) (wrote-many (number .put-spaced-number .ensures .0) (number .put-spaced-number .ensures .1 .0)) (omega arith) in
     promised (and-then (and-then head ten (omega arith)) (wrote-many (end .put-bytes2 .ensures) refl) (omega arith)) (omega arith)
 
