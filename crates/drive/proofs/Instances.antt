@@ -11,7 +11,7 @@ use Rattle.drive.specs.Speed.{still}
 use Rattle.drive.specs.Faults.{noFaults, isEmptyOf, bumpOf, putOf}
 use Rattle.drive.specs.Cycle.{bit, wordOf, wordUsed, acknowledges, afterAck, afterCode, isS4, cycleOf}
 use Rattle.drive.specs.Worked.{workedCycles}
-use Rattle.drive.proofs.Laws.{fault-means-s1, entry-into-s4, stay-in-s4, s4-needs-b1, acknowledged, not-acknowledged}
+use Rattle.drive.proofs.Laws.{fault-means-s1, entry-into-s4, stay-in-s4, s4-needs-b1, acknowledged, must-acknowledge, not-acknowledged}
 
 -- EntryIntoS4: no entry from a state other than S3 and S51, S4 itself among them, nor one that ends elsewhere
 module _ (d : Drive) (i : Input) (entered : cycleOf d i .output .entered ≡ true) where
@@ -61,7 +61,18 @@ nothing-there : (d : Drive) (i : Input) → cycleOf d i .output .acknowledged �
 nothing-there d i e empty = true≢false (sym empty ∙ acknowledged d i e .some)
 
 held : (d : Drive) (i : Input) → cycleOf d i .output .acknowledged ≡ true → bit 7 (d .word) ≡ true → ⊥
-held d i e bit-7 = true≢false (sym bit-7 ∙ acknowledged d i e .rising)
+held d i e bit-7 = true≢false (sym bit-7 ∙ acknowledged d i e .before)
+
+not-set : (d : Drive) (i : Input) → cycleOf d i .output .acknowledged ≡ true → bit 7 (wordUsed (i .stw1) (d .word)) ≡ false → ⊥
+not-set d i e bit-7 = true≢false (sym (acknowledged d i e .now) ∙ bit-7)
+
+-- MustAcknowledge: 04FE after 047F, at a fault
+acknowledging : Input
+acknowledging = record { standstill = false; warning = false; stw1 = 0x04FE; nsoll = still; nist = still; fault = 0; reference = 1500; window = 164; threshold = 16384 }
+
+acknowledges-it : cycleOf faulty acknowledging .output .acknowledged ≡ true
+unfolding faulty acknowledging wordUsed wordOf
+acknowledges-it = must-acknowledge faulty acknowledging refl refl refl refl
 
 -- the counter goes on by 1 where a cycle acknowledged, and stays where it did not and no code came
 counter-goes-on : (d : Drive) (i : Input) → cycleOf d i .output .acknowledged ≡ true → cycleOf d i .drive .faults .counter ≡ bumpOf (d .faults .counter)

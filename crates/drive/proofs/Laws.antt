@@ -13,7 +13,7 @@ use Rattle.drive.specs.declared.Drive.{Drive}
 use Rattle.drive.specs.declared.Input.{Input}
 use Rattle.drive.specs.Faults.{isEmptyOf}
 use Rattle.drive.specs.Cycle.{wordOf, wordUsed, acknowledges, afterAck, afterCode, nextOf, stateAfter, isS4, entersS4, cycleOf}
-use Rattle.drive.specs.Laws.{FaultMeansS1, EntryIntoS4, StayInS4, S4NeedsB1, Acknowledged, NotAcknowledged}
+use Rattle.drive.specs.Laws.{FaultMeansS1, EntryIntoS4, StayInS4, S4NeedsB1, Acknowledged, MustAcknowledge, NotAcknowledged}
 pub use Rattle.drive.proofs.Proper.{keeps-length, keeps-proper}
 
 pub fault-means-s1 : FaultMeansS1
@@ -82,14 +82,19 @@ acknowledged d i e =
     let last = wordOf (d .word) in
     let some = isEmptyOf (d .faults) in
     let code = eqb (i .fault) 0 in
-    let now = and-eq-true-iff (w .b7) (not (last .b7) && (code && not some)) .0 e .1 in
-    let rising = and-eq-true-iff (not (last .b7)) (code && not some) .0 now in
-    let both = and-eq-true-iff code (not some) .0 (rising .1) in
+    let now = and-eq-true-iff (w .b7) (not (last .b7) && (code && not some)) .0 e in
+    let before = and-eq-true-iff (not (last .b7)) (code && not some) .0 (now .1) in
+    let both = and-eq-true-iff code (not some) .0 (before .1) in
     record {
       some = not-true some (both .1);
-      rising = not-true (last .b7) (rising .0);
+      now = now .0;
+      before = not-true (last .b7) (before .0);
       moved = rw (e, both .0);
     }
+
+pub must-acknowledge : MustAcknowledge
+unfolding cycleOf acknowledges wordOf
+must-acknowledge d i now before none some = rw (now, before, none, some)
 
 pub not-acknowledged : NotAcknowledged
 unfolding cycleOf afterAck

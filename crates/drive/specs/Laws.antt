@@ -36,14 +36,21 @@ StayInS4 = (d : Drive) (i : Input) → cycleOf d i .output .entered ≡ false �
 abbrev pub S4NeedsB1 : Type 0
 S4NeedsB1 = (d : Drive) (i : Input) → cycleOf d i .drive .state ≡ S4 → bit 1 (wordUsed (i .stw1) (d .word)) ≡ true
 
--- where a cycle acknowledged, situation 0 was not empty, bit 7 was not held, and the fault buffer is moved down, with no new code in it
+-- where a cycle acknowledged, situation 0 was not empty, bit 7 rose, and the fault buffer is moved down, with no new code in it
 pub record Acknowledges (d : Drive) (i : Input) : Type 0 where
   pub some : isEmptyOf (d .faults) ≡ false
-  pub rising : bit 7 (d .word) ≡ false
+  pub now : bit 7 (wordUsed (i .stw1) (d .word)) ≡ true
+  pub before : bit 7 (d .word) ≡ false
   pub moved : cycleOf d i .drive .faults ≡ acknowledgedOf (d .faults)
 
 abbrev pub Acknowledged : Type 0
 Acknowledged = (d : Drive) (i : Input) → cycleOf d i .output .acknowledged ≡ true → Acknowledges d i
+
+-- and it has to, where bit 7 rises beside no code
+abbrev pub MustAcknowledge : Type 0
+MustAcknowledge =
+    (d : Drive) (i : Input) → bit 7 (wordUsed (i .stw1) (d .word)) ≡ true → bit 7 (d .word) ≡ false → i .fault ≡ 0
+    → isEmptyOf (d .faults) ≡ false → cycleOf d i .output .acknowledged ≡ true
 
 -- where it did not, step 3 alone has changed the buffer
 abbrev pub NotAcknowledged : Type 0

@@ -6,10 +6,11 @@ use Prim.Native.Nat.{ℕ}
 use native.Mathlib.Omega.{arith}
 use lib.ListN.{length}
 use Rattle.codes.specs.Code.{AllOf}
+use Rattle.station.specs.Parts.{farms, freshParts}
 use Rattle.journal.specs.Line.{nextRecord, pastRecord, isRecord, recordLine, badLine}
-use Rattle.journal.specs.History.{Parted, parted, replayFrom}
+use Rattle.journal.specs.History.{Parted, parted, replayFrom, replayOf}
 use Rattle.journal.specs.Laws.{joined, pieces, played}
-use Rattle.journal.proofs.Whole.{parted-as-written, every-journal, enough-bytes, plays-whole}
+use Rattle.journal.proofs.Whole.{parted-as-written, every-journal, enough-bytes, plays-whole, replays-whole}
 
 -- PartedAsWritten: two records and a byte that is none
 module _ (q r : List ℕ) (first : isRecord q ≡ true) (second : isRecord r ≡ true) where
@@ -36,7 +37,15 @@ module _ (bs : List ℕ) where
 enough : (bs more : List ℕ) → length bs ≡ 247 → nextRecord (bs ++ more) ≡ nextRecord bs
 enough bs more long = enough-bytes bs more (omega arith)
 
--- PlaysWhole: a kind that is none ends the run with its word, whatever follows it
+-- PlaysWhole and ReplaysWhole: a kind that is none ends the run with its word, whatever follows it
 bad-ends : (s : List ℕ) → replayFrom (0x00 ∷ 0x01 ∷ []) s ≡ badLine
 unfolding played pieces nextRecord pastRecord isRecord recordLine
 bad-ends s = sym (plays-whole (0x00 ∷ 0x01 ∷ []) s)
+
+fresh-bad-ends : replayOf (0x00 ∷ 0x01 ∷ []) ≡ badLine
+unfolding played pieces nextRecord pastRecord isRecord recordLine
+fresh-bad-ends = sym (replays-whole (0x00 ∷ 0x01 ∷ []))
+
+-- from fresh parts, and from nothing else
+from-fresh : (bs : List ℕ) → replayOf bs ≡ replayFrom bs (freshParts farms)
+from-fresh bs = sym (replays-whole bs) ∙ plays-whole bs (freshParts farms)

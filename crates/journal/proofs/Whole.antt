@@ -9,11 +9,12 @@ use lib.ListN.{length, getD, take, length-append, length-drop, take-append-drop,
 use lib.Seq.{take-append-le, take-at, drop-at}
 use borrow.Table.Steps.{cases}
 use Rattle.codes.specs.Code.{AllOf}
+use Rattle.station.specs.Parts.{farms, freshParts}
 use Rattle.station.specs.Calls.{kinds}
 use Rattle.station.specs.Isolation.{answer, after}
 use Rattle.journal.specs.Line.{recordLength, longestRecord, nextRecord, pastRecord, isRecord, callOf, lineOf, recordLine, recordAfter}
 use Rattle.journal.specs.History.{partedIn, parted, history, calls, lines, endLine, replayFrom}
-use Rattle.journal.specs.Laws.{joined, PartedAsWritten, EveryJournal, EnoughBytes, piecesIn, pieces, played, PlaysWhole}
+use Rattle.journal.specs.Laws.{joined, PartedAsWritten, EveryJournal, EnoughBytes, piecesIn, pieces, played, PlaysWhole, ReplaysWhole}
 use Rattle.journal.proofs.Records.{record-whole}
 
 -- a record has a byte at least, and no more than the longest
@@ -127,3 +128,6 @@ plays-in (suc n) (b ∷ bs) s h =
 pub plays-whole : PlaysWhole
 unfolding replayFrom parted pieces
 plays-whole bs s = plays-in (length bs) bs s (omega arith)
+
+pub replays-whole : ReplaysWhole
+replays-whole bs = plays-whole bs (freshParts farms)

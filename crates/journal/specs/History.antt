@@ -20,7 +20,7 @@ pub record Parted : Type 0 where
 abbrev withRecord : List ℕ → Parted → Parted
 withRecord r p = record { records = r ∷ p .records; left = p .left }
 
--- the first n records
+-- at most n records, and what is left
 abbrev pub partedIn : ℕ → List ℕ → Parted
 partedIn zero bs = record { records = []; left = bs }
 partedIn (suc n) bs =

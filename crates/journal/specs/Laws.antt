@@ -5,8 +5,9 @@ use mathlib.Core.List.{List, [], _∷_, _++_}
 use Prim.Native.Nat.{ℕ, zero, suc, _≤_}
 use lib.ListN.{length}
 use Rattle.codes.specs.Code.{AllOf}
+use Rattle.station.specs.Parts.{farms, freshParts}
 use Rattle.journal.specs.Line.{longestRecord, nextRecord, pastRecord, isRecord, recordLine, recordAfter}
-use Rattle.journal.specs.History.{parted, replayFrom}
+use Rattle.journal.specs.History.{parted, replayFrom, replayOf}
 
 -- records one after the other
 abbrev pub joined : List (List ℕ) → List ℕ
@@ -46,6 +47,9 @@ unfoldable pub played : List (List ℕ) → List ℕ → List ℕ
 played [] s = []
 played (r ∷ rs) s = recordLine r s ++ cond (isRecord r) (played rs (recordAfter r s)) []
 
--- is the output of the whole journal
+-- is the output of the whole journal, from any station, and so from a fresh one
 abbrev pub PlaysWhole : Type 0
 PlaysWhole = (bs s : List ℕ) → played (pieces bs) s ≡ replayFrom bs s
+
+abbrev pub ReplaysWhole : Type 0
+ReplaysWhole = (bs : List ℕ) → played (pieces bs) (freshParts farms) ≡ replayOf bs

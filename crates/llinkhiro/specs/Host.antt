@@ -1,4 +1,4 @@
--- What a host is handed of an answer: all of it, but of a cycle not what document 02, R-1, counts.
+-- What a host is handed of an answer: all of it, but of a cycle not whether it acknowledged a situation and whether it entered S4.
 use mathlib.Core.List.{List}
 use Prim.Native.Nat.{ℕ}
 use Rattle.station.specs.declared.Cycled.{Cycled}

@@ -1,9 +1,10 @@
 -- What adding the counts of a record comes to, for each way that the code goes, and what it makes of the record's step.
-use mathlib.Core.Path.{_≡_, refl}
-use mathlib.Core.Bool.{true, false}
+use mathlib.Core.Path.{_≡_, refl, sym, ap, _∙_}
+use mathlib.Core.Bool.{Bool, true, false, _&&_, false≢true}
 use mathlib.Core.List.{List, []}
 use Prim.Native.Nat.{ℕ, _+_, _-_, _*_, _≤_, _<_}
 use native.Mathlib.Omega.{arith}
+use lib.Dec.{leb}
 use lib.ListN.{take, drop}
 use borrow.Author.Tests.{le-leb, lt-leb}
 use borrow.Rule.Slice.PartMut.{putMid}
@@ -17,7 +18,8 @@ use Rattle.journal.specs.Line.{isRecord, callOf}
 use Rattle.journal.specs.History.{didBy, didOf}
 use Rattle.season.specs.declared.Turn.{Turn}
 use Rattle.season.specs.declared.Turn.the-variants.{Counted, Bad as NoRecord, Over}
-use Rattle.season.specs.Season.{answerCounts, plus, reaches, Season, added, turn, stepOf}
+use Rattle.season.specs.Season.{answerCounts, farmCounts, plus, reaches, Season, added, tally, count, stepOf}
+use Rattle.season.specs.Laws.{EndsAtOver}
 
 ten : (k : ℕ) → (k - 1) * 10 + 10 - (k - 1) * 10 ≡ 10
 ten k = omega arith
@@ -59,6 +61,20 @@ of-did c (toCycle d) totals = refl
 of-did c (toFrame f reply) totals = refl
 
 pub step-of : (r s totals : List ℕ) → stepOf r s totals ≡ ofDid (didOf r s) totals
-unfolding stepOf didOf turn
+unfolding stepOf didOf tally
 step-of r s totals =
     cases (isRecord r) (λ is. rw is (of-did (callOf r) (answer kinds (callOf r) s) totals)) (λ isnt. rw isnt)
+
+isOver : Turn → Bool
+isOver Counted = false
+isOver NoRecord = false
+isOver Over = true
+
+pub ends-at-over : EndsAtOver
+unfolding count tally added isOver
+ends-at-over d ds totals e =
+    cases (leb 1 (owner (d .call)) && leb (owner (d .call)) farms)
+    (λ is.
+    cases (reaches (plus (farmCounts (owner (d .call)) totals) (answerCounts (d .answer)))) (λ over. rw (is, over))
+    (λ fits. let at : tally d totals .last ≡ Counted = rw (is, fits) in absurd (false≢true (ap isOver (sym at ∙ e)))))
+    (λ isnt. let at : tally d totals .last ≡ Counted = rw isnt in absurd (false≢true (ap isOver (sym at ∙ e))))

@@ -20,8 +20,8 @@ use Rattle.station.proofs.Sizes.{isolated-station}
 use Rattle.journal.specs.History.{doneBy, history}
 use Rattle.season.specs.declared.Turn.{Turn}
 use Rattle.season.specs.declared.Turn.the-variants.{Counted, Bad, Over}
-use Rattle.season.specs.Season.{answerCounts, farmCounts, withCounts, plus, reaches, Season, added, turn, next, count}
-use Rattle.season.specs.Laws.{FarmsApart}
+use Rattle.season.specs.Season.{answerCounts, farmCounts, withCounts, plus, reaches, Season, added, tally, next, count}
+use Rattle.season.specs.Laws.{summed, CountsSummed, FarmsApart}
 use Rattle.season.proofs.Sums.{plus-length}
 
 ten-counts : (a : Answer) → length (answerCounts a) ≡ 10
@@ -89,11 +89,6 @@ module _ (j : ℕ) (counts totals : List ℕ) (ten : length counts ≡ 10) (size
       (λ fits. rw (le-leb 1 j low, le-leb j farms high, fits)
       (window-same ((j - 1) * 10) 10 sums totals (inside j totals low high size) (sums-ten low high)))
 
--- answers counted one after the other
-summed : List Answer → List ℕ → List ℕ
-summed [] counts = counts
-summed (a ∷ more) counts = summed more (plus counts (answerCounts a))
-
 -- what came to its end went on
 went-on : (l : Turn) (totals : List ℕ) (more : List ℕ → Season) → next l totals more .last ≡ Counted → (l ≡ Counted) × (next l totals more ≡ more totals)
 unfolding isCounted
@@ -106,21 +101,21 @@ module _ (k : ℕ) (low : 1 ≤ k) (high : k ≤ farms) where
   answersOf cs s = answersTo (machine kinds) (λ c. eqb (owner c) k) cs (runAnswers (machine kinds) cs s)
 
   -- one turn, of the farm's own call and of another's
-  turn-own : (c : Call) (s totals : List ℕ) → length totals ≡ farms * 10 → owner c ≡ k → turn (doneBy c s) totals .last ≡ Counted
-      → farmCounts k (turn (doneBy c s) totals .totals) ≡ plus (farmCounts k totals) (answerCounts (answer kinds c s))
-  unfolding turn
-  turn-own c s totals size mine e =
+  tally-own : (c : Call) (s totals : List ℕ) → length totals ≡ farms * 10 → owner c ≡ k → tally (doneBy c s) totals .last ≡ Counted
+      → farmCounts k (tally (doneBy c s) totals .totals) ≡ plus (farmCounts k totals) (answerCounts (answer kinds c s))
+  unfolding tally
+  tally-own c s totals size mine e =
       ap (λ (x : ℕ). farmCounts x (added (owner c) (answerCounts (answer kinds c s)) totals .totals)) (sym mine)
       ∙ (own (owner c) (answerCounts (answer kinds c s)) totals (ten-counts (answer kinds c s)) size (rw mine low) (rw mine high) e
       ∙ ap (λ (x : ℕ). plus (farmCounts x totals) (answerCounts (answer kinds c s))) mine)
 
-  turn-other : (c : Call) (s totals : List ℕ) → length totals ≡ farms * 10 → (owner c ≡ k → ⊥) → farmCounts k (turn (doneBy c s) totals .totals) ≡ farmCounts k totals
-  unfolding turn
-  turn-other c s totals size other = apart (owner c) (answerCounts (answer kinds c s)) totals (ten-counts (answer kinds c s)) size k low high other
+  tally-other : (c : Call) (s totals : List ℕ) → length totals ≡ farms * 10 → (owner c ≡ k → ⊥) → farmCounts k (tally (doneBy c s) totals .totals) ≡ farmCounts k totals
+  unfolding tally
+  tally-other c s totals size other = apart (owner c) (answerCounts (answer kinds c s)) totals (ten-counts (answer kinds c s)) size k low high other
 
-  turn-size : (c : Call) (s totals : List ℕ) → length totals ≡ farms * 10 → length (turn (doneBy c s) totals .totals) ≡ farms * 10
-  unfolding turn
-  turn-size c s totals size = same-size (owner c) (answerCounts (answer kinds c s)) totals (ten-counts (answer kinds c s)) size
+  tally-size : (c : Call) (s totals : List ℕ) → length totals ≡ farms * 10 → length (tally (doneBy c s) totals .totals) ≡ farms * 10
+  unfolding tally
+  tally-size c s totals size = same-size (owner c) (answerCounts (answer kinds c s)) totals (ten-counts (answer kinds c s)) size
 
   -- so the farm's counts are its answers, summed
   folded : (cs : List Call) (s totals : List ℕ) → length totals ≡ farms * 10 → count (history cs s) totals .last ≡ Counted
@@ -128,17 +123,20 @@ module _ (k : ℕ) (low : 1 ≤ k) (high : k ≤ farms) where
   unfolding count history answersTo runAnswers summed
   folded [] s totals size e = refl
   folded (c ∷ cs) s totals size e =
-      let t = turn (doneBy c s) totals in
+      let t = tally (doneBy c s) totals in
       let w = went-on (t .last) (t .totals) (count (history cs (after kinds c s))) e in
-      let rest = ap (λ (x : Season). farmCounts k (x .totals)) (w .1) ∙ folded cs (after kinds c s) (t .totals) (turn-size c s totals size) (ap (λ (x : Season). x .last) (sym (w .1)) ∙ e) in
+      let rest = ap (λ (x : Season). farmCounts k (x .totals)) (w .1) ∙ folded cs (after kinds c s) (t .totals) (tally-size c s totals size) (ap (λ (x : Season). x .last) (sym (w .1)) ∙ e) in
       cases (eqb (owner c) k)
-      (λ mine. rw mine (rest ∙ ap (summed (answersOf cs (after kinds c s))) (turn-own c s totals size (eqb-true (owner c) k mine) (w .0))))
-      (λ other. rw other (rest ∙ ap (summed (answersOf cs (after kinds c s))) (turn-other c s totals size (eqb-false (owner c) k other))))
+      (λ mine. rw mine (rest ∙ ap (summed (answersOf cs (after kinds c s))) (tally-own c s totals size (eqb-true (owner c) k mine) (w .0))))
+      (λ other. rw other (rest ∙ ap (summed (answersOf cs (after kinds c s))) (tally-other c s totals size (eqb-false (owner c) k other))))
+
+pub counts-summed : CountsSummed
+counts-summed k low high cs s totals size e = folded k low high cs s totals size e
 
 pub farms-apart : FarmsApart
 unfolding Isolated SameSeen
 farms-apart k low high cs s totals a ds t others b parts counts calls =
     let seen = isolated-station k low high s t (a .station) (b .station) parts cs ds calls in
-    folded k low high cs s totals (a .size) (a .all)
+    counts-summed k low high cs s totals (a .size) (a .all)
     ∙ ((λ j. summed (seen .0 j) (counts j))
-    ∙ sym (folded k low high ds t others (b .size) (b .all)))
+    ∙ sym (counts-summed k low high ds t others (b .size) (b .all)))

@@ -3,19 +3,21 @@ use mathlib.Core.Path.{Path, _≡_, refl, sym, ap, _∙_}
 use mathlib.Core.List.{List, [], _∷_}
 use Prim.Native.Nat.{ℕ}
 use lib.Dec.{eqb, lit≤}
-use lib.ListN.{take}
+use lib.ListN.{take, replicate}
 use Rattle.station.specs.Cycle.{Sent}
 use Rattle.station.specs.Runs.{callsBy}
 use Rattle.station.specs.Isolation.{answer}
 use Rattle.station.specs.Calls.{Call, cycle, frame, kinds}
 use Rattle.station.specs.Laws.{numberIn}
 use Rattle.journal.specs.Line.{nextRecord, pastRecord, isRecord}
-use Rattle.journal.specs.History.{history}
+use Rattle.journal.specs.History.{Done, history}
 use Rattle.journal.specs.Laws.{pieces}
-use Rattle.season.specs.declared.Turn.the-variants.{Bad}
-use Rattle.season.specs.Season.{one, answerCounts, farmCounts, Season, count, seasonFrom, stepOf}
+use Rattle.season.specs.declared.Turn.the-variants.{Counted, Bad, Over}
+use Rattle.season.specs.Season.{one, answerCounts, farmCounts, Season, tally, count, seasonFrom, stepOf}
+use Rattle.season.specs.Report.{reportText, reportOf}
 use Rattle.season.specs.Laws.{stepped, sum, Tallied}
-use Rattle.season.proofs.Whole.{counts-whole}
+use Rattle.season.proofs.Adds.{ends-at-over}
+use Rattle.season.proofs.Whole.{counts-whole, reports-whole}
 use Rattle.season.proofs.Farms.{farms-apart}
 use Rattle.season.proofs.Worked.{one-state}
 
@@ -23,6 +25,15 @@ use Rattle.season.proofs.Worked.{one-state}
 bad-ends : (s totals : List ℕ) → Path Season (seasonFrom (0x00 ∷ 0x01 ∷ []) s totals) (record { totals = totals; last = Bad })
 unfolding stepped stepOf pieces nextRecord pastRecord isRecord
 bad-ends s totals = sym (counts-whole (0x00 ∷ 0x01 ∷ []) s totals)
+
+-- ReportsWhole: a journal of no record
+no-record : reportOf [] ≡ reportText (replicate 160 0) Counted
+unfolding stepped pieces
+no-record = sym (reports-whole [])
+
+-- EndsAtOver: what comes after it does not count
+nothing-after : (d e : Done) (totals : List ℕ) → tally d totals .last ≡ Over → count (d ∷ e ∷ []) totals .totals ≡ totals
+nothing-after d e totals over = ap (λ (c : Season). c .totals) (ends-at-over d (e ∷ []) totals over)
 
 -- OneState: both ways
 module _ (i : Sent) (s : List ℕ) where

@@ -1,11 +1,12 @@
 -- Records counted one after the other are the season of the whole journal.
-use mathlib.Core.Path.{_≡_, refl, sym, _∙_}
+use mathlib.Core.Path.{_≡_, refl, sym, ap, _∙_}
 use mathlib.Core.Bool.{true, false}
 use mathlib.Core.List.{List, [], _∷_}
-use Prim.Native.Nat.{ℕ, zero, suc, _≤_}
+use Prim.Native.Nat.{ℕ, zero, suc, _*_, _≤_}
 use native.Mathlib.Omega.{arith}
-use lib.ListN.{length}
+use lib.ListN.{length, replicate}
 use borrow.Table.Steps.{cases}
+use Rattle.station.specs.Parts.{farms, freshParts}
 use Rattle.station.specs.Calls.{kinds}
 use Rattle.station.specs.Isolation.{after}
 use Rattle.journal.specs.Line.{nextRecord, pastRecord, isRecord, callOf, recordAfter}
@@ -14,8 +15,9 @@ use Rattle.journal.specs.Laws.{piecesIn, pieces}
 use Rattle.journal.proofs.Whole.{none, shorter}
 use Rattle.season.specs.declared.Turn.{Turn}
 use Rattle.season.specs.declared.Turn.the-variants.{Counted, Bad, Over}
-use Rattle.season.specs.Season.{Season, turn, next, andThen, count, ending, seasonFrom, stepOf}
-use Rattle.season.specs.Laws.{stepped, CountsWhole}
+use Rattle.season.specs.Season.{Season, tally, next, andThen, count, ending, seasonFrom, seasonOf, stepOf}
+use Rattle.season.specs.Laws.{stepped, CountsWhole, ReportsWhole}
+use Rattle.season.specs.Report.{reportText}
 
 -- one after the other, however they are bracketed
 next-next : (l : Turn) (totals : List ℕ) (f g : List ℕ → Season) → andThen (next l totals f) g ≡ next l totals (λ u. andThen (f u) g)
@@ -37,7 +39,7 @@ count-record : (n b : ℕ) (bs s totals : List ℕ) → let r = nextRecord (b �
     → ((u : List ℕ) → Counts n (pastRecord (b ∷ bs)) (after kinds (callOf r) s) u) → Counts (suc n) (b ∷ bs) s totals
 unfolding stepped stepOf recordAfter count history
 count-record n b bs s totals is rest =
-    let t = turn (doneBy (callOf (nextRecord (b ∷ bs))) s) totals in
+    let t = tally (doneBy (callOf (nextRecord (b ∷ bs))) s) totals in
     rw is (next-same (t .last) (t .totals) _ _ rest ∙ sym (next-next (t .last) (t .totals) _ _))
 
 count-bad : (n b : ℕ) (bs s totals : List ℕ) → isRecord (nextRecord (b ∷ bs)) ≡ false → Counts (suc n) (b ∷ bs) s totals
@@ -56,3 +58,7 @@ counts-in (suc n) (b ∷ bs) s totals h =
 pub counts-whole : CountsWhole
 unfolding seasonFrom parted pieces
 counts-whole bs s totals = counts-in (length bs) bs s totals (omega arith)
+
+pub reports-whole : ReportsWhole
+unfolding seasonOf
+reports-whole bs = ap (λ (c : Season). reportText (c .totals) (c .last)) (counts-whole bs (freshParts farms) (replicate (farms * 10) 0))

@@ -18,9 +18,11 @@ use Rattle.station.specs.Calls.{Call, cycle, Answer, toCycle, kinds}
 use Rattle.station.specs.Laws.{numberIn}
 use Rattle.station.specs.Worked.{workedCalls}
 use Rattle.station.proofs.Worked.{worked-by-hand}
+use Rattle.journal.specs.Text.{decimal}
 use Rattle.journal.specs.History.{Done, history}
-use Rattle.season.specs.Season.{one, answerCounts, added, turn, count}
-use Rattle.season.specs.Laws.{sum, OneState, WorkedSeason}
+use Rattle.season.specs.Season.{one, answerCounts, added, tally, count}
+use Rattle.season.specs.Laws.{sum, OneState, WorkedSeason, WorkedCounts, WorkedLines, Limit}
+use Rattle.season.specs.Report.{farmLine}
 
 -- a state is one of six
 six : (o : Output) (s : State) → o .state ≡ s → sum (take 6 (answerCounts (toCycle (cycled o)))) ≡ 1
@@ -60,7 +62,18 @@ as-run [] s = refl
 as-run (c ∷ cs) s = rw (as-run cs _)
 
 pub worked-season : WorkedSeason
-unfolding count turn added window withWindow paired
+unfolding count tally added window withWindow paired
 worked-season s size =
     let calls = map (λ w. w .call) workedCalls in
     ap (λ (ds : List Done). count ds (replicate (farms * 10) 0)) (as-run calls (freshStation s) ∙ ap (paired calls) (worked-by-hand s size .answered))
+
+pub worked-counts : WorkedCounts
+worked-counts = refl
+
+pub worked-lines : WorkedLines
+unfolding farmLine window decimal
+worked-lines = record { farm = refl; over = refl }
+
+pub limit : Limit
+unfolding added window withWindow
+limit = record { below = refl; reached = refl }

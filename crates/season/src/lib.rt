@@ -29,7 +29,7 @@ pub const COUNTS: usize = FARMS * EACH;
 // Room for any report: 16 lines of `r`, eleven numbers of at most 20 digits, each after a space, and the line's end; then `x 13`.
 pub const TEXT: usize = 3733;
 
-// Plays a record on the station and counts what it did. Number 13 leaves the totals as they were, and the station as the record did.
+// Plays a record on the station and counts what it did. Number 13 leaves the totals as they were; the station is as the record left it.
 pub fn step(station: &mut [u8], bytes: &[u8], totals: &mut [u64; COUNTS]) -> Turn
     ensures { λ r. ⌜ r ≡ stepOf (now (bytes .entry)) (now (station .entry)) (now (totals .entry)) .last ⌝ }
     ensures { λ r. ⌜ now (totals .exit) ≡ stepOf (now (bytes .entry)) (now (station .entry)) (now (totals .entry)) .totals ⌝ }

@@ -1,4 +1,4 @@
-// The text of a report: each function writes from `at` on, where there is room, and answers the place after what it wrote.
+// The text of a report: each function answers the place after what it wrote.
 ghost use mathlib.Core.Path.{_≡_};
 ghost use mathlib.Core.List.{_++_};
 ghost use Prim.Native.Nat.{_+_, _*_, _≤_};
