@@ -7,6 +7,7 @@ use borrow.Author.Tests.{lt-ltb, le-ltb}
 use Rattle.drive.specs.Cycle.{cycleOf}
 use Rattle.part.specs.Record.{driveOf, putDrive}
 use Rattle.part.specs.WellFormed.{wellFormed}
+use Rattle.station.specs.Laws.{TellsWhatItDid}
 use Rattle.station.specs.Cycle.{Sent, inputOf, cycleRefusal, refusedCycle, cycled, cycleAnswer, cyclePart}
 
 module _ (k : ℕ) (i : Sent) (p : List ℕ) where
@@ -24,3 +25,7 @@ module _ (k : ℕ) (i : Sent) (p : List ℕ) where
       × (putDrive (cycleOf (driveOf p) (inputOf i p) .drive) p ≡ cyclePart k i p)
   unfolding cycleRefusal cycleAnswer cyclePart
   cycles w h = rw (w, le-ltb 3 (i .flags) h) (refl, refl)
+
+pub tells-what-it-did : TellsWhatItDid
+unfolding cycleAnswer
+tells-what-it-did k i p e = rw e (refl, refl)

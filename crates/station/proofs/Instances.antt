@@ -24,7 +24,10 @@ use Rattle.access.specs.Work.{worked, outcomeOf}
 use Rattle.access.proofs.Answers.{answer-short}
 use Rattle.station.specs.Parts.{farms, stationSize, partOf, freshStation}
 use Rattle.station.specs.Frame.{frameRefusal, frameReply}
-use Rattle.station.specs.Cycle.{Sent}
+use Rattle.drive.specs.Cycle.{cycleOf}
+use Rattle.part.specs.Record.{driveOf}
+use Rattle.station.specs.Cycle.{Sent, inputOf, cycleRefusal, cycleAnswer}
+use Rattle.station.proofs.Cycles.{tells-what-it-did}
 use Rattle.station.specs.Runs.{callsBy, answersTo, SameSeen, runAnswers, runEnd}
 use Rattle.station.specs.Isolation.{Isolated, answer, after, machine}
 use Rattle.station.specs.Calls.{Call, cycle, frame, toFrame, owner, kinds}
@@ -212,3 +215,11 @@ module _ (r : Request) (fits : RequestFits r) (short : length (requestBytes r) �
     exchanged =
         let x = responds-as-ruled 1 r s m [] 240 w rest fits short mine room tt (answer-short r (partOf 1 s) fits) (lit≤ tt) wide in
         (x .acknowledged, x .answered, x .idle, x .fits, x .short)
+
+-- TellsWhatItDid: both, of the last axis
+module _ (i : Sent) (p : List ℕ) (fine : cycleRefusal 16 i p ≡ 0) where
+  told-acknowledge : cycleOf (driveOf p) (inputOf i p) .output .acknowledged ≡ true → cycleAnswer 16 i p .acknowledged ≡ true
+  told-acknowledge e = tells-what-it-did 16 i p fine .0 ∙ e
+
+  told-entry : cycleOf (driveOf p) (inputOf i p) .output .entered ≡ true → cycleAnswer 16 i p .entered ≡ true
+  told-entry e = tells-what-it-did 16 i p fine .1 ∙ e

@@ -14,13 +14,15 @@ use Rattle.blocks.specs.Request.{Request, request}
 use Rattle.blocks.specs.Response.{Response, response}
 use Rattle.blocks.specs.Page.{RequestFits, requestBytes, ResponseFits, responseBytes}
 use Rattle.blocks.specs.Place.{headerOf}
+use Rattle.drive.specs.Cycle.{cycleOf}
 use Rattle.part.specs.Layout.{partSize, waitingLength, waiting}
+use Rattle.part.specs.Record.{driveOf}
 use Rattle.access.specs.Work.{worked, outcomeOf}
 use Rattle.part.specs.Fresh.{freshPart}
 use Rattle.part.specs.WellFormed.{wellFormed}
 use Rattle.station.specs.Parts.{farms, stationSize, partOf, freshStation}
 use Rattle.station.specs.Frame.{isWrite, blockOf, frameTests, frameRefusal, replyOf, frameReply}
-use Rattle.station.specs.Cycle.{Sent, cycleTests, cyclePart}
+use Rattle.station.specs.Cycle.{Sent, inputOf, cycleTests, cycleRefusal, cycleAnswer, cyclePart}
 use Rattle.station.specs.Runs.{runAnswers, runEnd}
 use Rattle.station.specs.Isolation.{Isolated, answer, after, machine}
 use Rattle.station.specs.Calls.{Call, cycle, frame, Answer, toCycle, toFrame, owner, refused, kinds}
@@ -74,6 +76,13 @@ pub record Refuses (c : Call) (s : List ℕ) : Type 0 where
 -- every number but 0 is a refusal
 abbrev pub Refused : Type 0
 Refused = (c : Call) (s : List ℕ) → (numberIn (answer kinds c s) ≡ 0 → ⊥) → Refuses c s
+
+-- Document 02, R-1: a cycle that is not refused tells what the cycle of its axis's drive did
+abbrev pub TellsWhatItDid : Type 0
+TellsWhatItDid =
+    (k : ℕ) (i : Sent) (p : List ℕ) → cycleRefusal k i p ≡ 0
+    → let did = cycleOf (driveOf p) (inputOf i p) .output in
+    (cycleAnswer k i p .acknowledged ≡ did .acknowledged) × (cycleAnswer k i p .entered ≡ did .entered)
 
 -- numbers 1 to 4: "empty reply", and the reply memory is as it was
 abbrev pub EmptyReply : Type 0
