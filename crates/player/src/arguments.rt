@@ -3,8 +3,8 @@ ghost use Prim.Native.Nat.{_≤_};
 use super::Job;
 use super::file::play_file;
 use super::out::OUT;
+use super::record::Progress;
 use super::record::Went;
-use super::record::Worked;
 use libc::STDIN_FILENO;
 use season::COUNTS;
 
@@ -31,7 +31,7 @@ fn play_input(
     totals: &mut [u64; COUNTS],
     out: &mut [u8; OUT],
     used: usize,
-) -> Worked
+) -> Progress
     requires { ⌜ used ≤ 16384 ⌝ }
     ensures { λ r. ⌜ r .used ≤ 16384 ⌝ }
 {
@@ -56,7 +56,7 @@ fn play_named(
     totals: &mut [u64; COUNTS],
     out: &mut [u8; OUT],
     used: usize,
-) -> Worked
+) -> Progress
     requires { ⌜ used ≤ 16384 ⌝ }
     ensures { λ r. ⌜ r .used ≤ 16384 ⌝ }
 {
@@ -66,7 +66,7 @@ fn play_named(
     let fd = os::open_read(name);
     if fd < 0 {
         os::fail(name);
-        return Worked {
+        return Progress {
             used,
             went: Went::Stopped,
         };
@@ -85,7 +85,7 @@ fn play_argument(
     totals: &mut [u64; COUNTS],
     out: &mut [u8; OUT],
     used: usize,
-) -> Worked
+) -> Progress
     requires { ⌜ used ≤ 16384 ⌝ }
     ensures { λ r. ⌜ r .used ≤ 16384 ⌝ }
 {
@@ -93,7 +93,7 @@ fn play_argument(
     let n = os::arg(i, &mut name);
     if os::errno() != 0 {
         os::fail(b"argument");
-        return Worked {
+        return Progress {
             used,
             went: Went::Stopped,
         };
@@ -108,7 +108,7 @@ pub(crate) fn play_arguments(
     input: &mut [u8],
     totals: &mut [u64; COUNTS],
     out: &mut [u8; OUT],
-) -> Worked
+) -> Progress
     ensures { λ r. ⌜ r .used ≤ 16384 ⌝ }
 {
     let count = os::arg_count();
@@ -124,5 +124,5 @@ pub(crate) fn play_arguments(
         went = r.went;
         i += 1;
     }
-    Worked { used, went }
+    Progress { used, went }
 }

@@ -3,8 +3,8 @@ ghost use Prim.Native.Nat.{_≤_};
 ghost use lib.ListN.{length};
 use super::Job;
 use super::out::OUT;
+use super::record::Progress;
 use super::record::Went;
-use super::record::Worked;
 use super::record::finish;
 use super::record::work;
 use super::window::Window;
@@ -24,7 +24,7 @@ struct Step {
 }
 
 // How much output is collected, how it goes on, and after how many records.
-struct Played {
+struct Reached {
     used: usize,
     went: Went,
     records: u64,
@@ -88,7 +88,7 @@ fn play_records(
     totals: &mut [u64; COUNTS],
     out: &mut [u8; OUT],
     collected: usize,
-) -> Played
+) -> Reached
     requires { ⌜ collected ≤ 16384 ⌝ }
     ensures { λ r. ⌜ r .used ≤ 16384 ⌝ }
 {
@@ -114,7 +114,7 @@ fn play_records(
         window = s.window;
         records += 1;
     }
-    Played {
+    Reached {
         used,
         went,
         records,
@@ -153,7 +153,7 @@ pub(crate) fn play_file(
     totals: &mut [u64; COUNTS],
     out: &mut [u8; OUT],
     collected: usize,
-) -> Worked
+) -> Progress
     requires { ⌜ collected ≤ 16384 ⌝ }
     ensures { λ r. ⌜ r .used ≤ 16384 ⌝ }
 {
@@ -162,10 +162,10 @@ pub(crate) fn play_file(
     if is_last(went) {
         finish(job, went, totals, out, p.used);
         say(name, p.records, went);
-        return Worked {
+        return Progress {
             used: 0,
             went: Went::Stopped,
         };
     }
-    Worked { used: p.used, went }
+    Progress { used: p.used, went }
 }

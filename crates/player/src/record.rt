@@ -21,7 +21,7 @@ pub(crate) enum Went {
 }
 
 // How much output is collected, and how it goes on.
-pub(crate) struct Worked {
+pub(crate) struct Progress {
     pub(crate) used: usize,
     pub(crate) went: Went,
 }
@@ -38,20 +38,20 @@ fn replay(
     line: &mut [u8; LINE],
     out: &mut [u8; OUT],
     used: usize,
-) -> Worked
+) -> Progress
     requires { ⌜ used ≤ 16384 ⌝ }
     ensures { λ r. ⌜ r .used ≤ 16384 ⌝ }
 {
     let p = journal::play(station, record, line);
     let room = make_room(out, used, p.length);
     if !room.good {
-        return Worked {
+        return Progress {
             used: 0,
             went: Went::Stopped,
         };
     }
     put_line(out, room.at, line, p.length);
-    Worked {
+    Progress {
         used: room.at + p.length,
         went: after_play(p.good),
     }
@@ -75,13 +75,13 @@ pub(crate) fn work(
     line: &mut [u8; LINE],
     out: &mut [u8; OUT],
     used: usize,
-) -> Worked
+) -> Progress
     requires { ⌜ used ≤ 16384 ⌝ }
     ensures { λ r. ⌜ r .used ≤ 16384 ⌝ }
 {
     match job {
         Job::Replay => replay(station, record, line, out, used),
-        Job::Report => Worked {
+        Job::Report => Progress {
             used,
             went: count(station, record, totals),
         },
