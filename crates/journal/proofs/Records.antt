@@ -14,9 +14,9 @@ use Rattle.drive.specs.Faults.{zeros}
 use Rattle.station.specs.Calls.{Call, kinds}
 use Rattle.station.specs.Isolation.{answer, after}
 use Rattle.journal.specs.Line.{recordLength, cycleRecord, frameRecord, cycleCall, frameLength, frameCall, isCycle, isFrame, isRecord, callOf, lineOf, badLine, recordLine, recordAfter}
-use Rattle.journal.specs.declared.Did.{Did}
-use Rattle.journal.specs.declared.Did.the-variants.{Bad}
-use Rattle.journal.specs.History.{didBy, didOf}
+use Rattle.journal.specs.declared.Acted.{Acted}
+use Rattle.journal.specs.declared.Acted.the-variants.{Bad}
+use Rattle.journal.specs.History.{actedBy, actedOf}
 use Rattle.journal.proofs.Pieces.{wrote-first, from-start}
 
 -- bytes tested for 0, from a place on
@@ -60,30 +60,30 @@ record-whole r = go (isCycle r) (isFrame r) refl refl
 
 -- what a play and an act promise, by what the bytes are
 module _ (r s : List ℕ) where
-  pub record Comes (l t : List ℕ) (d : Did) (g : Bool) : Type 0 where
+  pub record Comes (l t : List ℕ) (d : Acted) (g : Bool) : Type 0 where
     pub line : recordLine r s ≡ l
     pub after : recordAfter r s ≡ t
-    pub did : didOf r s ≡ d
+    pub acted : actedOf r s ≡ d
     pub good : isRecord r ≡ g
 
   -- a record, by its call
-  comes : (c : Call) → isRecord r ≡ true → callOf r ≡ c → Comes (lineOf c (answer kinds c s)) (after kinds c s) (didBy c (answer kinds c s)) true
-  unfolding recordLine recordAfter didOf
-  comes c good call = record { line = rw (good, call); after = rw (good, call); did = rw (good, call); good = good }
+  comes : (c : Call) → isRecord r ≡ true → callOf r ≡ c → Comes (lineOf c (answer kinds c s)) (after kinds c s) (actedBy c (answer kinds c s)) true
+  unfolding recordLine recordAfter actedOf
+  comes c good call = record { line = rw (good, call); after = rw (good, call); acted = rw (good, call); good = good }
 
-  pub comes-cycle : isCycle r ≡ true → Comes (lineOf (cycleCall r) (answer kinds (cycleCall r) s)) (after kinds (cycleCall r) s) (didBy (cycleCall r) (answer kinds (cycleCall r) s)) true
+  pub comes-cycle : isCycle r ≡ true → Comes (lineOf (cycleCall r) (answer kinds (cycleCall r) s)) (after kinds (cycleCall r) s) (actedBy (cycleCall r) (answer kinds (cycleCall r) s)) true
   unfolding isRecord callOf
   comes-cycle h = comes (cycleCall r) (rw h) (rw h)
 
-  pub comes-frame : isCycle r ≡ false → isFrame r ≡ true → Comes (lineOf (frameCall r) (answer kinds (frameCall r) s)) (after kinds (frameCall r) s) (didBy (frameCall r) (answer kinds (frameCall r) s)) true
+  pub comes-frame : isCycle r ≡ false → isFrame r ≡ true → Comes (lineOf (frameCall r) (answer kinds (frameCall r) s)) (after kinds (frameCall r) s) (actedBy (frameCall r) (answer kinds (frameCall r) s)) true
   unfolding isRecord callOf
   comes-frame g h = comes (frameCall r) (rw (g, h)) (rw g)
 
   pub comes-bad : isCycle r ≡ false → isFrame r ≡ false → Comes badLine s Bad false
-  unfolding recordLine recordAfter didOf isRecord
-  comes-bad g h = record { line = rw (g, h); after = rw (g, h); did = rw (g, h); good = rw (g, h) }
+  unfolding recordLine recordAfter actedOf isRecord
+  comes-bad g h = record { line = rw (g, h); after = rw (g, h); acted = rw (g, h); good = rw (g, h) }
 
-  module _ {bs u : List ℕ} {d : Did} {g : Bool} (e : Comes bs u d g) (l : List ℕ) {m t : List ℕ} {p : ℕ} where
+  module _ {bs u : List ℕ} {d : Acted} {g : Bool} (e : Comes bs u d g) (l : List ℕ) {m t : List ℕ} {p : ℕ} where
     pub played : m ≡ put l 0 bs → p ≡ length bs → p ≤ 513 → length l ≡ 513 → t ≡ u → (m ≡ recordLine r s ++ drop p l) × (((p ≡ length (recordLine r s)) × (p ≤ 513)) × ((g ≡ isRecord r) × (t ≡ recordAfter r s)))
     played put-there long fits room left =
         let all : m ≡ bs ++ drop p l = from-start (wrote-first (put-there, (long, fits))) (omega arith) in

@@ -8,8 +8,8 @@ use lib.ListN.{length}
 use Rattle.station.specs.Parts.{farms, freshParts}
 use Rattle.station.specs.Calls.{Call, Answer, toCycle, toFrame, owner, kinds}
 use Rattle.station.specs.Isolation.{answer, after}
-use Rattle.journal.specs.declared.Did.{Did}
-use Rattle.journal.specs.declared.Did.the-variants.{Cycle, Frame, Bad}
+use Rattle.journal.specs.declared.Acted.{Acted}
+use Rattle.journal.specs.declared.Acted.the-variants.{Cycle, Frame, Bad}
 use Rattle.journal.specs.Line.{nextRecord, pastRecord, isRecord, callOf, lineOf, badLine}
 
 -- the records of a journal, and what is left from the first on that is bad: nothing, where the journal ends with a record
@@ -31,26 +31,26 @@ unfoldable pub parted : List ℕ → Parted
 parted bs = partedIn (length bs) bs
 
 -- a call, and its answer
-pub record Done : Type 0 where
+pub record Event : Type 0 where
   pub call : Call
   pub answer : Answer
 
-abbrev pub doneBy : Call → List ℕ → Done
-doneBy c s = record { call = c; answer = answer kinds c s }
+abbrev pub eventOf : Call → List ℕ → Event
+eventOf c s = record { call = c; answer = answer kinds c s }
 
 -- the history of calls, from the station s on
-unfoldable pub history : List Call → List ℕ → List Done
+unfoldable pub history : List Call → List ℕ → List Event
 history [] s = []
-history (c ∷ cs) s = doneBy c s ∷ history cs (after kinds c s)
+history (c ∷ cs) s = eventOf c s ∷ history cs (after kinds c s)
 
 -- a record makes its call
 abbrev pub calls : Parted → List Call
 calls p = map callOf (p .records)
 
 -- a line for each
-abbrev pub lines : List Done → List ℕ
+abbrev pub lines : List Event → List ℕ
 lines [] = []
-lines (d ∷ ds) = lineOf (d .call) (d .answer) ++ lines ds
+lines (e ∷ es) = lineOf (e .call) (e .answer) ++ lines es
 
 -- "Anything else, or a cut body, writes `bad` and ends"
 abbrev pub endLine : List ℕ → List ℕ
@@ -66,10 +66,10 @@ abbrev pub replayOf : List ℕ → List ℕ
 replayOf bs = replayFrom bs (freshParts farms)
 
 -- whose call it was, and its answer but for the reply
-abbrev pub didBy : Call → Answer → Did
-didBy c (toCycle d) = Cycle (owner c) d
-didBy c (toFrame f reply) = Frame (owner c) f
+abbrev pub actedBy : Call → Answer → Acted
+actedBy c (toCycle d) = Cycle (owner c) d
+actedBy c (toFrame f reply) = Frame (owner c) f
 
 -- what the bytes r do on the station s, told by `act`
-unfoldable pub didOf : List ℕ → List ℕ → Did
-didOf r s = cond (isRecord r) (didBy (callOf r) (answer kinds (callOf r) s)) Bad
+unfoldable pub actedOf : List ℕ → List ℕ → Acted
+actedOf r s = cond (isRecord r) (actedBy (callOf r) (answer kinds (callOf r) s)) Bad

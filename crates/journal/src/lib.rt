@@ -7,7 +7,7 @@ ghost use Rattle.codes.specs.Number.{put};
 ghost use Rattle.station.specs.Calls.{kinds};
 ghost use Rattle.station.specs.Isolation.{answer, after};
 ghost use Rattle.journal.specs.Line.{cycleRecord, frameRecord, frameLength, isRecord, cycleCall, frameCall, lineOf, recordLine, recordAfter};
-ghost use Rattle.journal.specs.History.{didOf};
+ghost use Rattle.journal.specs.History.{actedOf};
 use station::CycleDone;
 use station::Framed;
 
@@ -30,7 +30,7 @@ pub struct Played {
 }
 
 // What a record did: a cycle of an axis, or a frame of a farm; nothing, where it is bad.
-pub enum Did {
+pub enum Acted {
     Cycle(u8, CycleDone),
     Frame(u8, Framed),
     Bad,
@@ -88,18 +88,18 @@ pub fn play(station: &mut [u8], bytes: &[u8], line: &mut [u8; LINE]) -> Played
 }
 
 // Makes the call of a record on the station and answers what it did, with no line.
-pub fn act(station: &mut [u8], bytes: &[u8]) -> Did
-    ensures { λ r. ⌜ r ≡ didOf (now (bytes .entry)) (now (station .entry)) ⌝ }
+pub fn act(station: &mut [u8], bytes: &[u8]) -> Acted
+    ensures { λ r. ⌜ r ≡ actedOf (now (bytes .entry)) (now (station .entry)) ⌝ }
     ensures { λ r. ⌜ now (station .exit) ≡ recordAfter (now (bytes .entry)) (now (station .entry)) ⌝ }
 {
     if record::is_cycle(bytes) {
         let axis = bytes[1];
-        return Did::Cycle(axis, call::cycle(station, bytes));
+        return Acted::Cycle(axis, call::cycle(station, bytes));
     }
     if record::is_frame(bytes) {
         let farm = bytes[1];
         let mut reply = [0u8; record::FRAME_ROOM];
-        return Did::Frame(farm, call::frame(station, bytes, &mut reply));
+        return Acted::Frame(farm, call::frame(station, bytes, &mut reply));
     }
-    Did::Bad
+    Acted::Bad
 }

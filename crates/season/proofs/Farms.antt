@@ -1,97 +1,71 @@
 -- The counts of one farm: those of its own calls' answers, added up; so the others' do not matter.
 use mathlib.Core.Path.{_≡_, refl, sym, ap, _∙_}
-use mathlib.Core.Bool.{Bool, true, false, _&&_, false≢true}
+use mathlib.Core.Bool.{false≢true}
 use mathlib.Core.List.{List, [], _∷_}
-use Prim.Native.Nat.{ℕ, _+_, _-_, _*_, _≤_, _<_}
+use Prim.Native.Nat.{ℕ, _-_, _*_, _≤_, _<_}
 use native.Mathlib.Omega.{arith}
 use native.Mathlib.Decide.{decLt}
-use lib.Dec.{eqb, leb}
+use lib.Dec.{eqb}
 use lib.ListN.{length}
-use borrow.Author.Tests.{eqb-true, eqb-false, leb-true, le-leb}
+use borrow.Author.Tests.{eqb-true, eqb-false, le-leb}
 use borrow.Table.Steps.{cases}
-use Rattle.codes.proofs.Demand.{both}
 use Rattle.station.specs.Parts.{farms}
 use Rattle.station.specs.Runs.{runAnswers, answersTo, SameSeen}
 use Rattle.station.specs.Isolation.{answer, after, machine, Isolated}
 use Rattle.station.specs.Calls.{Call, Answer, toCycle, toFrame, owner, kinds}
-use Rattle.station.proofs.Windows.{length-window, length-with, window-same, window-before, window-after}
+use Rattle.station.proofs.Windows.{length-with, window-same, window-before, window-after}
 use Rattle.station.proofs.Isolation.{ends}
 use Rattle.station.proofs.Sizes.{isolated-station}
-use Rattle.journal.specs.History.{doneBy, history}
+use Rattle.journal.specs.History.{eventOf, history}
 use Rattle.season.specs.declared.Turn.{Turn}
 use Rattle.season.specs.declared.Turn.the-variants.{Counted, Bad, Over}
 use Rattle.season.specs.Season.{answerCounts, farmCounts, withCounts, plus, reaches, Season, added, tally, next, count}
 use Rattle.season.specs.Laws.{summed, CountsSummed, FarmsApart}
-use Rattle.season.proofs.Sums.{plus-length}
+use Rattle.season.proofs.Adds.{inside, sums-ten, isCounted, ways}
 
 ten-counts : (a : Answer) → length (answerCounts a) ≡ 10
 ten-counts (toCycle c) = refl
 ten-counts (toFrame f reply) = refl
-
--- a farm's counts begin and end within the totals
-inside : (k : ℕ) (totals : List ℕ) → 1 ≤ k → k ≤ farms → length totals ≡ farms * 10 → (k - 1) * 10 + 10 ≤ length totals
-inside k totals low high size = omega (arith, ends k farms 10 low high)
-
-isCounted : Turn → Bool
-isCounted Counted = true
-isCounted Bad = false
-isCounted Over = false
 
 -- what adding the ten counts of an answer for farm j does to those of farm k
 module _ (j : ℕ) (counts totals : List ℕ) (ten : length counts ≡ 10) (size : length totals ≡ farms * 10) where
   abbrev sums : List ℕ
   sums = plus (farmCounts j totals) counts
 
-  sums-ten : 1 ≤ j → j ≤ farms → length sums ≡ 10
-  sums-ten low high = plus-length (farmCounts j totals) counts (length-window ((j - 1) * 10) 10 totals (inside j totals low high size) ∙ sym ten) ∙ ten
-
-  -- by the three ways that it goes
-  module _ (P : Season → Type 0)
-      (as-was : (l : Turn) → P (record { totals = totals; last = l }))
-      (grown : 1 ≤ j → j ≤ farms → P (record { totals = withCounts j sums totals; last = Counted })) where
-    ways : P (added j counts totals)
-    unfolding added
-    ways =
-        cases (leb 1 j && leb j farms)
-        (λ is.
-        let b = both (leb 1 j) (leb j farms) is in
-        rw is
-        (cases (reaches (plus (farmCounts j totals) counts)) (λ over. rw over (as-was Over))
-        (λ fits. rw fits (grown (leb-true 1 j (b .0)) (leb-true j farms (b .1))))))
-        (λ isnt. rw isnt (as-was Counted))
+  abbrev long : 1 ≤ j → j ≤ farms → length sums ≡ 10
+  long low high = sums-ten j counts totals low high ten size
 
   same-size : length (added j counts totals .totals) ≡ farms * 10
   same-size =
-      ways (λ c. length (c .totals) ≡ farms * 10) (λ l. size)
-      (λ low high. length-with ((j - 1) * 10) 10 sums totals (inside j totals low high size) (sums-ten low high) ∙ size)
+      ways j counts totals (λ c. length (c .totals) ≡ farms * 10) (λ l. size)
+      (λ low high. length-with ((j - 1) * 10) 10 sums totals (inside j totals low high size) (long low high) ∙ size)
 
   -- another farm's
   apart : (k : ℕ) → 1 ≤ k → k ≤ farms → (j ≡ k → ⊥) → farmCounts k (added j counts totals .totals) ≡ farmCounts k totals
-  apart k low high differs = ways (λ c. farmCounts k (c .totals) ≡ farmCounts k totals) (λ l. refl) (λ lo hi. beside lo hi (decLt j k) (decLt k j))
+  apart k low high differs = ways j counts totals (λ c. farmCounts k (c .totals) ≡ farmCounts k totals) (λ l. refl) (λ lo hi. beside lo hi (decLt j k) (decLt k j))
     where
       beside : 1 ≤ j → j ≤ farms → Dec (j < k) → Dec (k < j) → farmCounts k (withCounts j sums totals) ≡ farmCounts k totals
       beside lo hi (yes h) m =
-          window-after ((j - 1) * 10) 10 sums totals (inside j totals lo hi size) (sums-ten lo hi) ((k - 1) * 10) 10
+          window-after ((j - 1) * 10) 10 sums totals (inside j totals lo hi size) (long lo hi) ((k - 1) * 10) 10
           (ends j (k - 1) 10 lo (omega arith)) (inside k totals low high size)
       beside lo hi (no h) (yes m) =
-          window-before ((j - 1) * 10) 10 sums totals (inside j totals lo hi size) (sums-ten lo hi) ((k - 1) * 10) 10
+          window-before ((j - 1) * 10) 10 sums totals (inside j totals lo hi size) (long lo hi) ((k - 1) * 10) 10
           (ends k (j - 1) 10 low (omega arith))
       beside lo hi (no h) (no m) = absurd (differs (omega arith))
 
   -- its own
   own : 1 ≤ j → j ≤ farms → added j counts totals .last ≡ Counted → farmCounts j (added j counts totals .totals) ≡ sums
-  unfolding added isCounted
+  unfolding added
   own low high e =
       cases (reaches (plus (farmCounts j totals) counts))
       (λ over.
       let at : added j counts totals .last ≡ Over = rw (le-leb 1 j low, le-leb j farms high, over) in
       absurd (false≢true (ap isCounted (sym at ∙ e))))
       (λ fits. rw (le-leb 1 j low, le-leb j farms high, fits)
-      (window-same ((j - 1) * 10) 10 sums totals (inside j totals low high size) (sums-ten low high)))
+      (window-same ((j - 1) * 10) 10 sums totals (inside j totals low high size) (long low high)))
 
 -- what came to its end went on
 went-on : (l : Turn) (totals : List ℕ) (more : List ℕ → Season) → next l totals more .last ≡ Counted → (l ≡ Counted) × (next l totals more ≡ more totals)
-unfolding isCounted
 went-on Counted totals more e = (refl, refl)
 went-on Bad totals more e = absurd (false≢true (ap isCounted e))
 went-on Over totals more e = absurd (false≢true (ap isCounted e))
@@ -101,19 +75,19 @@ module _ (k : ℕ) (low : 1 ≤ k) (high : k ≤ farms) where
   answersOf cs s = answersTo (machine kinds) (λ c. eqb (owner c) k) cs (runAnswers (machine kinds) cs s)
 
   -- one turn, of the farm's own call and of another's
-  tally-own : (c : Call) (s totals : List ℕ) → length totals ≡ farms * 10 → owner c ≡ k → tally (doneBy c s) totals .last ≡ Counted
-      → farmCounts k (tally (doneBy c s) totals .totals) ≡ plus (farmCounts k totals) (answerCounts (answer kinds c s))
+  tally-own : (c : Call) (s totals : List ℕ) → length totals ≡ farms * 10 → owner c ≡ k → tally (eventOf c s) totals .last ≡ Counted
+      → farmCounts k (tally (eventOf c s) totals .totals) ≡ plus (farmCounts k totals) (answerCounts (answer kinds c s))
   unfolding tally
   tally-own c s totals size mine e =
       ap (λ (x : ℕ). farmCounts x (added (owner c) (answerCounts (answer kinds c s)) totals .totals)) (sym mine)
       ∙ (own (owner c) (answerCounts (answer kinds c s)) totals (ten-counts (answer kinds c s)) size (rw mine low) (rw mine high) e
       ∙ ap (λ (x : ℕ). plus (farmCounts x totals) (answerCounts (answer kinds c s))) mine)
 
-  tally-other : (c : Call) (s totals : List ℕ) → length totals ≡ farms * 10 → (owner c ≡ k → ⊥) → farmCounts k (tally (doneBy c s) totals .totals) ≡ farmCounts k totals
+  tally-other : (c : Call) (s totals : List ℕ) → length totals ≡ farms * 10 → (owner c ≡ k → ⊥) → farmCounts k (tally (eventOf c s) totals .totals) ≡ farmCounts k totals
   unfolding tally
   tally-other c s totals size other = apart (owner c) (answerCounts (answer kinds c s)) totals (ten-counts (answer kinds c s)) size k low high other
 
-  tally-size : (c : Call) (s totals : List ℕ) → length totals ≡ farms * 10 → length (tally (doneBy c s) totals .totals) ≡ farms * 10
+  tally-size : (c : Call) (s totals : List ℕ) → length totals ≡ farms * 10 → length (tally (eventOf c s) totals .totals) ≡ farms * 10
   unfolding tally
   tally-size c s totals size = same-size (owner c) (answerCounts (answer kinds c s)) totals (ten-counts (answer kinds c s)) size
 
@@ -123,7 +97,7 @@ module _ (k : ℕ) (low : 1 ≤ k) (high : k ≤ farms) where
   unfolding count history answersTo runAnswers summed
   folded [] s totals size e = refl
   folded (c ∷ cs) s totals size e =
-      let t = tally (doneBy c s) totals in
+      let t = tally (eventOf c s) totals in
       let w = went-on (t .last) (t .totals) (count (history cs (after kinds c s))) e in
       let rest = ap (λ (x : Season). farmCounts k (x .totals)) (w .1) ∙ folded cs (after kinds c s) (t .totals) (tally-size c s totals size) (ap (λ (x : Season). x .last) (sym (w .1)) ∙ e) in
       cases (eqb (owner c) k)

@@ -11,6 +11,7 @@ use lib.Dec.{leb}
 use lib.ListN.{length, getD, take, drop, set}
 use lib.Seq.{drop-cons, drop-drop, getD-drop, take-suc, take-suc-set, drop-set-lt}
 use borrow.Author.Tests.{leb-false, le-leb, lt-leb}
+use borrow.Table.Steps.{cases}
 use Rattle.season.specs.Season.{plus, reaches}
 
 pub plus-length : (ms ns : List ℕ) → length ms ≡ length ns → length (plus ms ns) ≡ length ns
@@ -38,6 +39,15 @@ reach-end [] zero h = refl
 reach-end [] (suc i) h = refl
 reach-end (n ∷ l) zero h = absurd (omega arith)
 reach-end (n ∷ l) (suc i) h = reach-end l i (omega arith)
+
+pub some-reaches : (l : List ℕ) (i : ℕ) → i < length l → 2 ^ 64 ≤ getD l i 0 → reaches l ≡ true
+some-reaches [] i h big = absurd (omega arith)
+some-reaches (n ∷ l) zero h big = rw (le-leb (2 ^ 64) n big)
+some-reaches (n ∷ l) (suc i) h big = cases (leb (2 ^ 64) n) (λ is. rw is) (λ isnt. rw (isnt, some-reaches l i (omega arith) big))
+
+pub all-below : (l : List ℕ) → ((i : ℕ) → i < length l → getD l i 0 < 2 ^ 64) → reaches l ≡ false
+all-below [] small = refl
+all-below (n ∷ l) small = rw (lt-leb (2 ^ 64) n (small zero (omega arith)), all-below l (λ i h. small (suc i) (omega arith)))
 
 pub none-reaches : (l : List ℕ) → reaches l ≡ false → (i : ℕ) → i < length l → getD l i 0 < 2 ^ 64
 none-reaches [] e i h = absurd (omega arith)

@@ -10,7 +10,7 @@ use Rattle.station.specs.Parts.{farms, freshParts}
 use Rattle.station.specs.Calls.{kinds}
 use Rattle.station.specs.Isolation.{after}
 use Rattle.journal.specs.Line.{nextRecord, pastRecord, isRecord, callOf, recordAfter}
-use Rattle.journal.specs.History.{partedIn, parted, doneBy, history, calls}
+use Rattle.journal.specs.History.{partedIn, parted, eventOf, history, calls}
 use Rattle.journal.specs.Laws.{piecesIn, pieces}
 use Rattle.journal.proofs.Whole.{none, shorter}
 use Rattle.season.specs.declared.Turn.{Turn}
@@ -39,7 +39,7 @@ count-record : (n b : ℕ) (bs s totals : List ℕ) → let r = nextRecord (b �
     → ((u : List ℕ) → Counts n (pastRecord (b ∷ bs)) (after kinds (callOf r) s) u) → Counts (suc n) (b ∷ bs) s totals
 unfolding stepped stepOf recordAfter count history
 count-record n b bs s totals is rest =
-    let t = tally (doneBy (callOf (nextRecord (b ∷ bs))) s) totals in
+    let t = tally (eventOf (callOf (nextRecord (b ∷ bs))) s) totals in
     rw is (next-same (t .last) (t .totals) _ _ rest ∙ sym (next-next (t .last) (t .totals) _ _))
 
 count-bad : (n b : ℕ) (bs s totals : List ℕ) → isRecord (nextRecord (b ∷ bs)) ≡ false → Counts (suc n) (b ∷ bs) s totals

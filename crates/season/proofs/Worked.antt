@@ -19,9 +19,9 @@ use Rattle.station.specs.Laws.{numberIn}
 use Rattle.station.specs.Worked.{workedCalls}
 use Rattle.station.proofs.Worked.{worked-by-hand}
 use Rattle.journal.specs.Text.{decimal}
-use Rattle.journal.specs.History.{Done, history}
+use Rattle.journal.specs.History.{Event, history}
 use Rattle.season.specs.Season.{one, answerCounts, added, tally, count}
-use Rattle.season.specs.Laws.{sum, OneState, WorkedSeason, WorkedCounts, WorkedLines, Limit}
+use Rattle.season.specs.Laws.{sum, OneState, WorkedSeason, WorkedCounts, WorkedLines}
 use Rattle.season.specs.Report.{farmLine}
 
 -- a state is one of six
@@ -51,7 +51,7 @@ one-state axis i s = go (stationRefusal axis (length s))
     go (suc n) = rw (eqb·suc-zero n)
 
 -- a history is the calls with the answers of their run
-paired : List Call → List Answer → List Done
+paired : List Call → List Answer → List Event
 paired [] answers = []
 paired (c ∷ cs) [] = []
 paired (c ∷ cs) (a ∷ answers) = record { call = c; answer = a } ∷ paired cs answers
@@ -65,7 +65,7 @@ pub worked-season : WorkedSeason
 unfolding count tally added window withWindow paired
 worked-season s size =
     let calls = map (λ w. w .call) workedCalls in
-    ap (λ (ds : List Done). count ds (replicate (farms * 10) 0)) (as-run calls (freshStation s) ∙ ap (paired calls) (worked-by-hand s size .answered))
+    ap (λ (ds : List Event). count ds (replicate (farms * 10) 0)) (as-run calls (freshStation s) ∙ ap (paired calls) (worked-by-hand s size .answered))
 
 pub worked-counts : WorkedCounts
 worked-counts = refl
@@ -73,7 +73,3 @@ worked-counts = refl
 pub worked-lines : WorkedLines
 unfolding farmLine window decimal
 worked-lines = record { farm = refl; over = refl }
-
-pub limit : Limit
-unfolding added window withWindow
-limit = record { below = refl; reached = refl }

@@ -2,10 +2,10 @@
 use mathlib.Core.Path.{_≡_}
 use mathlib.Core.Bool.{Bool, true, false}
 use mathlib.Core.List.{List, [], _∷_, _++_, map}
-use Prim.Native.Nat.{ℕ, _+_, _-_, _*_, _^_, _≤_}
+use Prim.Native.Nat.{ℕ, _+_, _*_, _^_, _≤_, _<_}
 use lib.Dec.{eqb}
 use lib.IntN.{pos}
-use lib.ListN.{length, take, replicate}
+use lib.ListN.{length, getD, take, replicate}
 use Rattle.station.specs.Parts.{farms, stationSize, partOf, freshParts, freshStation}
 use Rattle.station.specs.Cycle.{Sent}
 use Rattle.station.specs.Runs.{callsBy, runAnswers, answersTo}
@@ -14,7 +14,7 @@ use Rattle.station.specs.Calls.{Call, cycle, Answer, toCycle, toFrame, owner, k
 use Rattle.station.specs.Laws.{numberIn}
 use Rattle.station.specs.Worked.{workedCalls}
 use Rattle.journal.specs.Line.{recordAfter}
-use Rattle.journal.specs.History.{Done, history}
+use Rattle.journal.specs.History.{Event, history}
 use Rattle.journal.specs.Laws.{pieces}
 use Rattle.season.specs.declared.Turn.the-variants.{Counted, Over}
 use Rattle.season.specs.Season.{one, answerCounts, farmCounts, plus, Season, added, tally, andThen, count, seasonFrom, stepOf}
@@ -35,13 +35,16 @@ ReportsWhole = (bs : List ℕ) → let c = stepped (pieces bs) (freshParts farms
 -- "13, a count would reach 2^64; it ends with the totals before that record", whatever comes after it
 abbrev pub EndsAtOver : Type 0
 EndsAtOver =
-    (d : Done) (ds : List Done) (totals : List ℕ) → tally d totals .last ≡ Over
-    → count (d ∷ ds) totals ≡ record { totals = totals; last = Over }
+    (e : Event) (es : List Event) (totals : List ℕ) → tally e totals .last ≡ Over
+    → count (e ∷ es) totals ≡ record { totals = totals; last = Over }
 
--- both sides of that limit, in the first place and in the last
-pub record Limit : Type 0 where
-  pub below : added 1 (1 ∷ replicate 9 0) (replicate 160 (2 ^ 64 - 2)) .last ≡ Counted
-  pub reached : added 16 (replicate 9 0 ++ (1 ∷ [])) (replicate 160 (2 ^ 64 - 1)) ≡ record { totals = replicate 160 (2 ^ 64 - 1); last = Over }
+-- it comes where one of the farm's ten sums reaches 2^64, whichever one, and nowhere else
+pub record Limit (k : ℕ) (counts totals : List ℕ) : Type 0 where
+  pub below : ((i : ℕ) → i < 10 → getD (farmCounts k totals) i 0 + getD counts i 0 < 2 ^ 64) → added k counts totals .last ≡ Counted
+  pub reached : (i : ℕ) → i < 10 → 2 ^ 64 ≤ getD (farmCounts k totals) i 0 + getD counts i 0 → added k counts totals ≡ record { totals = totals; last = Over }
+
+abbrev pub Limits : Type 0
+Limits = (k : ℕ) → 1 ≤ k → k ≤ farms → (counts totals : List ℕ) → length counts ≡ 10 → length totals ≡ farms * 10 → Limit k counts totals
 
 -- a cycle that is not refused counts in one state, a refused one in none
 abbrev pub sum : List ℕ → ℕ

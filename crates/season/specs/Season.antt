@@ -8,7 +8,7 @@ use lib.ListN.{replicate}
 use Rattle.station.specs.Parts.{farms, window, withWindow, freshParts}
 use Rattle.station.specs.Calls.{Answer, toCycle, toFrame, owner}
 use Rattle.journal.specs.Line.{isRecord, callOf}
-use Rattle.journal.specs.History.{parted, Done, doneBy, history, calls}
+use Rattle.journal.specs.History.{parted, Event, eventOf, history, calls}
 use Rattle.season.specs.declared.Turn.{Turn}
 use Rattle.season.specs.declared.Turn.the-variants.{Counted, Bad, Over}
 
@@ -64,8 +64,8 @@ added k counts totals =
     (record { totals = withCounts k ns totals; last = Counted }))
 
 -- One turn: what a record did is counted for its farm: a cycle's is "its axis's farm", a frame's "its sender".
-unfoldable pub tally : Done → List ℕ → Season
-tally d totals = added (owner (d .call)) (answerCounts (d .answer)) totals
+unfoldable pub tally : Event → List ℕ → Season
+tally e totals = added (owner (e .call)) (answerCounts (e .answer)) totals
 
 -- what comes next is counted only where the last record was
 abbrev pub next : Turn → List ℕ → (List ℕ → Season) → Season
@@ -77,9 +77,9 @@ abbrev pub andThen : Season → (List ℕ → Season) → Season
 andThen c more = next (c .last) (c .totals) more
 
 -- the counts of a history, added to the totals given
-unfoldable pub count : List Done → List ℕ → Season
+unfoldable pub count : List Event → List ℕ → Season
 count [] totals = record { totals = totals; last = Counted }
-count (d ∷ ds) totals = andThen (tally d totals) (count ds)
+count (e ∷ es) totals = andThen (tally e totals) (count es)
 
 -- "A `bad` record ends the report with the totals so far and that word."
 abbrev pub ending : List ℕ → List ℕ → Season
@@ -96,4 +96,4 @@ seasonOf bs = seasonFrom bs (freshParts farms) (replicate (farms * 10) 0)
 
 -- one record: a turn, where it is one
 unfoldable pub stepOf : List ℕ → List ℕ → List ℕ → Season
-stepOf r s totals = cond (isRecord r) (tally (doneBy (callOf r) s) totals) (record { totals = totals; last = Bad })
+stepOf r s totals = cond (isRecord r) (tally (eventOf (callOf r) s) totals) (record { totals = totals; last = Bad })

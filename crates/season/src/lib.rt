@@ -2,7 +2,7 @@
 ghost use mathlib.Core.Path.{_≡_};
 ghost use Rattle.journal.specs.Line.{recordAfter};
 ghost use Rattle.season.specs.Season.{stepOf};
-use journal::Did;
+use journal::Acted;
 
 mod report; // report.rt: the text
 mod totals; // totals.rt: what a record counts, added to the totals
@@ -35,10 +35,10 @@ pub fn step(station: &mut [u8], bytes: &[u8], totals: &mut [u64; COUNTS]) -> Tur
     ensures { λ r. ⌜ now (totals .exit) ≡ stepOf (now (bytes .entry)) (now (station .entry)) (now (totals .entry)) .totals ⌝ }
     ensures { λ r. ⌜ now (station .exit) ≡ recordAfter (now (bytes .entry)) (now (station .entry)) ⌝ }
 {
-    let did = journal::act(station, bytes);
-    match did {
-        Did::Cycle(axis, c) => totals::add(totals, axis, &totals::of_cycle(c)),
-        Did::Frame(farm, f) => totals::add(totals, farm, &totals::of_frame(f)),
-        Did::Bad => Turn::Bad,
+    let acted = journal::act(station, bytes);
+    match acted {
+        Acted::Cycle(axis, c) => totals::add(totals, axis, &totals::of_cycle(c)),
+        Acted::Frame(farm, f) => totals::add(totals, farm, &totals::of_frame(f)),
+        Acted::Bad => Turn::Bad,
     }
 }

@@ -3,7 +3,7 @@ use mathlib.Core.Path.{refl, sym, ap, _∙_}
 use native.Mathlib.Omega.{arith}
 use denote.Ref.{now}
 use Rattle.journal.specs.Line.{cycleCall, frameCall}
-use Rattle.journal.specs.History.{didBy}
+use Rattle.journal.specs.History.{actedBy}
 use Rattle.journal.proofs.Records.{cycle-length, frame-lengths, comes-cycle, comes-frame, comes-bad}
 use borrow.Author.Needs.{needs}
 use Rattle.journal.proofs.act.Statement.{statement}
@@ -28,7 +28,7 @@ returns c =
     let a = c .before .before .before .before .before .before .before .before .before .args in
     let e = comes-cycle (now (a .bytes)) (now (a .station)) (sym (c .before .before .before .before .before .before .is-cycle .ensures) ∙ c .before .before .before .before .before .if1 .taken) in
     let called = c .before .before .cycle in
-    (ap (didBy (cycleCall (now (a .bytes)))) (called .ensures .0) ∙ sym (e .did), called .ensures .1 ∙ sym (e .after))
+    (ap (actedBy (cycleCall (now (a .bytes)))) (called .ensures .0) ∙ sym (e .acted), called .ensures .1 ∙ sym (e .after))
 
 is-frame-requires : tie.Need-is-frame-requires
 is-frame-requires c κs = search needs
@@ -54,13 +54,13 @@ returns-2 c =
     let a = c .before .before .before .before .before .before .before .before .before .before .before .before .before .args in
     let e = comes-frame (now (a .bytes)) (now (a .station)) (sym (c .before .before .before .before .before .before .before .before .before .before .is-cycle .ensures) ∙ c .before .before .before .before .before .before .before .before .before .if1 .left) (sym (c .before .before .before .before .before .before .before .before .is-frame .ensures) ∙ c .before .before .before .before .before .before .before .if2 .taken) in
     let called = c .before .before .before .frame in
-    (ap (didBy (frameCall (now (a .bytes)))) (called .ensures .0) ∙ sym (e .did), called .ensures .1 .1 ∙ sym (e .after))
+    (ap (actedBy (frameCall (now (a .bytes)))) (called .ensures .0) ∙ sym (e .acted), called .ensures .1 .1 ∙ sym (e .after))
 
 returns-3 : tie.Need-returns-3
 returns-3 c =
     let a = c .before .before .before .before .before .before .args in
     let e = comes-bad (now (a .bytes)) (now (a .station)) (sym (c .before .before .before .is-cycle .ensures) ∙ c .before .before .if1 .left) (sym (c .before .is-frame .ensures) ∙ c .if2 .left) in
-    (sym (e .did), sym (e .after))
+    (sym (e .acted), sym (e .after))
 
 pub act-spec : {M : Type 1} → statement M
 act-spec =

@@ -3,9 +3,9 @@ use mathlib.Core.Path.{sym, ap, _∙_}
 use mathlib.Core.List.{List}
 use Prim.Native.Nat.{ℕ}
 use denote.Ref.{now}
-use Rattle.journal.specs.declared.Did.{Did}
+use Rattle.journal.specs.declared.Acted.{Acted}
 use Rattle.season.specs.Season.{Season, added}
-use Rattle.season.proofs.Adds.{ofDid, step-of}
+use Rattle.season.proofs.Adds.{ofActed, step-of}
 use borrow.Author.Needs.{needs}
 use Rattle.season.proofs.step.Statement.{statement}
 use Rattle.season.proofs.step.Tie as tie
@@ -13,8 +13,8 @@ use Rattle.season.proofs.step.Tie as tie
 act-requires : tie.Need-act-requires
 act-requires c κs = search needs
 
-enum-known-did : tie.Need-enum-known-did
-enum-known-did c = search needs
+enum-known-acted : tie.Need-enum-known-acted
+enum-known-acted c = search needs
 
 of-cycle-requires : tie.Need-of-cycle-requires
 of-cycle-requires c κs = search needs
@@ -25,8 +25,8 @@ slice-aggregate-add c = search needs
 add-requires : tie.Need-add-requires
 add-requires c κs = search needs
 
-enum-known-did-2 : tie.Need-enum-known-did-2
-enum-known-did-2 c = search needs
+enum-known-acted-2 : tie.Need-enum-known-acted-2
+enum-known-acted-2 c = search needs
 
 of-frame-requires : tie.Need-of-frame-requires
 of-frame-requires c κs = search needs
@@ -47,9 +47,9 @@ returns : tie.Need-returns
 returns c =
     let a = c .before .before .before .before .before .before .before .before .before .before .before .before .before .args in
     let act = c .before .before .before .before .before .before .before .before .before .act in
-    let v = c .before .before .before .before .before .did .given in
+    let v = c .before .before .before .before .before .acted .given in
     let counts = c .before .before .of-cycle .ensures in
-    let e = step-of (now (a .bytes)) (now (a .station)) (now (a .totals)) ∙ ap (λ (d : Did). ofDid d (now (a .totals))) (sym (act .ensures .0) ∙ v .1) in
+    let e = step-of (now (a .bytes)) (now (a .station)) (now (a .totals)) ∙ ap (λ (d : Acted). ofActed d (now (a .totals))) (sym (act .ensures .0) ∙ v .1) in
     let same = ap (λ (l : List ℕ). added (v .0 .0) l (now (a .totals))) counts ∙ sym e in
     (c .add .ensures .0 ∙ ap (λ (t : Season). t .last) same, (c .add .ensures .1 ∙ ap (λ (t : Season). t .totals) same, act .ensures .1))
 
@@ -60,9 +60,9 @@ returns-2 : tie.Need-returns-2
 returns-2 c =
     let a = c .before .before .before .before .before .before .before .before .before .before .before .before .before .args in
     let act = c .before .before .before .before .before .before .before .before .before .act in
-    let v = c .before .before .before .before .before .did2 .given in
+    let v = c .before .before .before .before .before .acted2 .given in
     let counts = c .before .before .of-frame .ensures in
-    let e = step-of (now (a .bytes)) (now (a .station)) (now (a .totals)) ∙ ap (λ (d : Did). ofDid d (now (a .totals))) (sym (act .ensures .0) ∙ v .1) in
+    let e = step-of (now (a .bytes)) (now (a .station)) (now (a .totals)) ∙ ap (λ (d : Acted). ofActed d (now (a .totals))) (sym (act .ensures .0) ∙ v .1) in
     let same = ap (λ (l : List ℕ). added (v .0 .0) l (now (a .totals))) counts ∙ sym e in
     (c .add2 .ensures .0 ∙ ap (λ (t : Season). t .last) same, (c .add2 .ensures .1 ∙ ap (λ (t : Season). t .totals) same, act .ensures .1))
 
@@ -73,7 +73,7 @@ returns-3 : tie.Need-returns-3
 returns-3 c =
     let a = c .before .before .before .before .before .before .before .before .args in
     let act = c .before .before .before .before .act in
-    let e = step-of (now (a .bytes)) (now (a .station)) (now (a .totals)) ∙ ap (λ (d : Did). ofDid d (now (a .totals))) (sym (act .ensures .0) ∙ c .enum-told .given .1) in
+    let e = step-of (now (a .bytes)) (now (a .station)) (now (a .totals)) ∙ ap (λ (d : Acted). ofActed d (now (a .totals))) (sym (act .ensures .0) ∙ c .enum-told .given .1) in
     (ap (λ (t : Season). t .last) (sym e), (ap (λ (t : Season). t .totals) (sym e), act .ensures .1))
 
 pub step-spec : {M : Type 1} → statement M
@@ -81,11 +81,11 @@ step-spec =
     tie.close
     (tie.spec
     act-requires
-    enum-known-did
+    enum-known-acted
     of-cycle-requires
     slice-aggregate-add
     add-requires
-    enum-known-did-2
+    enum-known-acted-2
     of-frame-requires
     slice-aggregate-add-2
     add-requires-2
