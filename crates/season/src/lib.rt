@@ -18,13 +18,11 @@ pub enum Turn {
     Over,
 }
 
-const FARMS: usize = 16;
-
 // The counts of one farm.
-const EACH: usize = 10;
+pub const EACH: usize = 10;
 
 // Those of all farms.
-pub const COUNTS: usize = FARMS * EACH;
+pub const COUNTS: usize = station::FARMS * EACH;
 
 // Room for any report: 16 lines of `r`, eleven numbers of at most 20 digits, each after a space, and the line's end; then `x 13`.
 pub const TEXT: usize = 3733;

@@ -7,9 +7,9 @@ ghost use Rattle.codes.specs.Number.{put};
 ghost use Rattle.season.specs.Report.{spaced, farmLine, linesTo, lastLine, reportText};
 use super::COUNTS;
 use super::EACH;
-use super::FARMS;
 use super::TEXT;
 use super::Turn;
+use station::FARMS;
 
 // Numbers, each after a space.
 fn put_spaced(numbers: &[u64], text: &mut [u8], at: usize) -> usize

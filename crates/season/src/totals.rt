@@ -6,9 +6,9 @@ ghost use lib.ListN.{length};
 ghost use Rattle.station.specs.Calls.{toCycle, toFrame};
 ghost use Rattle.season.specs.Season.{one, answerCounts, plus, reaches, added};
 use super::EACH;
-use super::FARMS;
 use super::Turn;
 use station::CycleDone;
+use station::FARMS;
 use station::Framed;
 
 fn one(b: bool) -> u64

@@ -1,24 +1,7 @@
-// Records counted over given totals: both sides of 2^64 for each kind of count, which no journal is long enough to reach.
+// Records counted over given totals, where no journal is long enough to bring them: each of a farm's ten counts to 2^64 - 1, and to 2^64.
 use season::COUNTS;
+use season::EACH;
 use season::Turn;
-
-// The counts of a farm.
-const EACH: usize = 10;
-
-// Where they stand in a row: cycles that ended in S1, S2 and S4, entries into S4, acknowledged situations, denied frames, elements stored.
-const S1: usize = 0;
-
-const S2: usize = 1;
-
-const S4: usize = 3;
-
-const ENTRIES: usize = 6;
-
-const ACKNOWLEDGED: usize = 7;
-
-const DENIED: usize = 8;
-
-const STORED: usize = 9;
 
 type Station = [u8; station::STATION];
 
@@ -86,9 +69,9 @@ fn others_full() -> Totals {
 
 fn print_turn(turn: Turn) {
     match turn {
-        Turn::Counted => print(b"counted:"),
-        Turn::Bad => print(b"bad:"),
-        Turn::Over => print(b"x 13:"),
+        Turn::Counted => print(b": counted:"),
+        Turn::Bad => print(b": bad:"),
+        Turn::Over => print(b": x 13:"),
     }
 }
 
@@ -96,7 +79,6 @@ fn print_turn(turn: Turn) {
 fn count(label: &[u8], mut memory: Station, record: &[u8], mut totals: Totals) {
     let turn = season::step(&mut memory, record, &mut totals);
     print(label);
-    print(b": ");
     print_turn(turn);
     for i in 0..EACH {
         print(b" ");
@@ -105,92 +87,53 @@ fn count(label: &[u8], mut memory: Station, record: &[u8], mut totals: Totals) {
     print(b"\n");
 }
 
-// A cycle that ends in S4 and came from S3, where the count in S4 is near its end.
-fn entry(ready: Station) {
-    let record = cycle(1, 0x047F, 0);
-    count(b"entry into S4, no counts", ready, &record, all_but(S4, 0));
-    count(b".. S4 at 2^64 - 2", ready, &record, all_but(S4, 2));
-    count(b".. S4 at 2^64 - 1", ready, &record, all_but(S4, 1));
+// Counts a record that adds so many in a place of farm 1: where that comes to 2^64 - 1, and where it comes to 2^64.
+fn both(label: &[u8], memory: Station, record: &[u8], place: usize, adds: u8) {
+    print(label);
+    count(
+        b" to 2^64 - 1",
+        memory,
+        record,
+        all_but(place, adds as u64 + 1),
+    );
+    print(label);
+    count(b" to 2^64", memory, record, all_but(place, adds as u64));
 }
 
-// The same cycle, where that of entries is; and where counts are full that it does not add to.
-fn entries(ready: Station) {
-    let record = cycle(1, 0x047F, 0);
-    count(
-        b".. entries at 2^64 - 2",
-        ready,
-        &record,
-        all_but(ENTRIES, 2),
-    );
-    count(
-        b".. entries at 2^64 - 1",
-        ready,
-        &record,
-        all_but(ENTRIES, 1),
-    );
-    count(b".. S1 at 2^64 - 1", ready, &record, all_but(S1, 1));
-    count(
-        b".. other farms' at 2^64 - 1",
-        ready,
-        &record,
-        others_full(),
-    );
+// A cycle that ends in each state. The one that ends in S4 enters it.
+fn states(memory: Station, ready: Station, running: Station) {
+    both(b"S1", memory, &cycle(1, 0x0000, 0), 0, 1);
+    both(b"S2", memory, &cycle(1, 0x047E, 0), 1, 1);
+    both(b"S3", running, &cycle(1, 0x0477, 0), 2, 1);
+    both(b"S4", ready, &cycle(1, 0x047F, 0), 3, 1);
+    both(b"S51", running, &cycle(1, 0x047E, 0), 4, 1);
+    both(b"S52", running, &cycle(1, 0x047B, 0), 5, 1);
 }
 
-// A cycle that acknowledges, and ends in S2.
-fn acknowledge(faulted: Station) {
-    let record = cycle(1, 0x04FE, 0);
-    count(
-        b"acknowledge, no counts",
-        faulted,
-        &record,
-        all_but(ACKNOWLEDGED, 0),
-    );
-    count(
-        b".. acknowledged at 2^64 - 1",
-        faulted,
-        &record,
-        all_but(ACKNOWLEDGED, 1),
-    );
-    count(b".. S2 at 2^64 - 1", faulted, &record, all_but(S2, 1));
+// An entry into S4; an acknowledge, which ends in S2; and frames.
+fn others(memory: Station, ready: Station) {
+    both(b"entries", ready, &cycle(1, 0x047F, 0), 6, 1);
+    let faulted = after(memory, 0x047E, 5);
+    both(b"acknowledged", faulted, &cycle(1, 0x04FE, 0), 7, 1);
+    both(b"denied", memory, &marks(2), 8, 1);
+    both(b"stored", memory, &marks(1), 9, 2);
 }
 
-fn frames(memory: Station) {
-    count(
-        b"2 stored, at 2^64 - 3",
-        memory,
-        &marks(1),
-        all_but(STORED, 3),
-    );
-    count(b".. at 2^64 - 2", memory, &marks(1), all_but(STORED, 2));
-    count(
-        b".. denied at 2^64 - 1",
-        memory,
-        &marks(1),
-        all_but(DENIED, 1),
-    );
-    count(
-        b"denied, at 2^64 - 2",
-        memory,
-        &marks(2),
-        all_but(DENIED, 2),
-    );
-    count(b".. at 2^64 - 1", memory, &marks(2), all_but(DENIED, 1));
+// Counts that a record does not add to stand in no one's way.
+fn unmoved(memory: Station, ready: Station) {
+    let enters = cycle(1, 0x047F, 0);
+    count(b"S4, S1 full", ready, &enters, all_but(0, 1));
+    count(b"S4, other farms full", ready, &enters, others_full());
+    let full = [u64::MAX; COUNTS];
+    count(b"axis 17, all full", memory, &cycle(17, 0x047E, 0), full);
+    count(b"no record, all full", memory, b"\x03", full);
 }
 
 fn main() {
     let memory = fresh();
     let ready = after(after(memory, 0x047E, 0), 0x047F, 0);
-    entry(ready);
-    entries(ready);
-    acknowledge(after(memory, 0x047E, 5));
-    frames(memory);
-    let full = [u64::MAX; COUNTS];
-    count(
-        b"axis 17, all at 2^64 - 1",
-        memory,
-        &cycle(17, 0x047E, 0),
-        full,
-    );
-    count(b"no record, all at 2^64 - 1", memory, b"\x03", full);
+    let running = after(ready, 0x047F, 0);
+    states(memory, ready, running);
+    others(memory, ready);
+    unmoved(memory, ready);
 }

@@ -34,7 +34,7 @@ pub struct CycleDone {
 }
 
 // Farms, and axes.
-const FARMS: usize = 16;
+pub const FARMS: usize = 16;
 
 // Bytes of a station's memory.
 pub const STATION: usize = FARMS * part::SIZE;

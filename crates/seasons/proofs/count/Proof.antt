@@ -19,23 +19,17 @@ step-requires c κs = search needs
 print-requires : tie.Need-print-requires Inv-loop μ-loop
 print-requires c κs = search needs
 
-slice-aggregate-print : tie.Need-slice-aggregate-print Inv-loop μ-loop
-slice-aggregate-print c = search needs
-
-print-requires-2 : tie.Need-print-requires-2 Inv-loop μ-loop
-print-requires-2 c κs = search needs
-
 print-turn-requires : tie.Need-print-turn-requires Inv-loop μ-loop
 print-turn-requires c κs = search needs
 
 loop-holds : tie.Need-loop-holds Inv-loop μ-loop
 loop-holds c = search needs
 
-slice-aggregate-print-2 : tie.Need-slice-aggregate-print-2 Inv-loop μ-loop
-slice-aggregate-print-2 c = search needs
+slice-aggregate-print : tie.Need-slice-aggregate-print Inv-loop μ-loop
+slice-aggregate-print c = search needs
 
-print-requires-3 : tie.Need-print-requires-3 Inv-loop μ-loop
-print-requires-3 c κs = search needs
+print-requires-2 : tie.Need-print-requires-2 Inv-loop μ-loop
+print-requires-2 c κs = search needs
 
 mul-print-decimal : tie.Need-mul-print-decimal Inv-loop μ-loop
 mul-print-decimal c = search needs
@@ -55,11 +49,11 @@ loop-less c = search needs
 loop-again : tie.Need-loop-again Inv-loop μ-loop
 loop-again c = search needs
 
-slice-aggregate-print-3 : tie.Need-slice-aggregate-print-3 Inv-loop μ-loop
-slice-aggregate-print-3 c = search needs
+slice-aggregate-print-2 : tie.Need-slice-aggregate-print-2 Inv-loop μ-loop
+slice-aggregate-print-2 c = search needs
 
-print-requires-4 : tie.Need-print-requires-4 Inv-loop μ-loop
-print-requires-4 c κs = search needs
+print-requires-3 : tie.Need-print-requires-3 Inv-loop μ-loop
+print-requires-3 c κs = search needs
 
 returns : tie.Need-returns Inv-loop μ-loop
 returns c = search needs
@@ -73,18 +67,16 @@ count-spec =
     slice-aggregate-step
     step-requires
     print-requires
-    slice-aggregate-print
-    print-requires-2
     print-turn-requires
     loop-holds
-    slice-aggregate-print-2
-    print-requires-3
+    slice-aggregate-print
+    print-requires-2
     mul-print-decimal
     array-read-print-decimal
     print-decimal-requires
     add-i
     loop-less
     loop-again
-    slice-aggregate-print-3
-    print-requires-4
+    slice-aggregate-print-2
+    print-requires-3
     returns)
