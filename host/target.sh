@@ -3,7 +3,7 @@
 
 stop() {
     echo "$0: $*" >&2
-    exit 1
+    exit 2
 }
 
 # need TOOL PACKAGE OPTION.. : the Debian package that has the tool, and how it is installed. Another install is waited for.
