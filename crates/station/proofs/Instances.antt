@@ -15,25 +15,25 @@ use Rattle.blocks.specs.Block.{blockLimit, formatSize, valueSize, changeBlockFi
 use Rattle.blocks.specs.Request.{Request, address, requestBlocks, request}
 use Rattle.blocks.specs.Response.{response}
 use Rattle.blocks.specs.Page.{RequestFits, requestBytes, ResponseFits, responseBytes}
+use Rattle.drive.specs.Cycle.{cycleOf}
 use Rattle.catalogue.specs.Table.{rows, parameterBytes}
 use Rattle.catalogue.specs.Element.{putElement}
 use Rattle.part.specs.Layout.{partSize, waitingLength, waiting}
 use Rattle.part.specs.Fresh.{freshPart}
+use Rattle.part.specs.Record.{driveOf}
 use Rattle.part.specs.WellFormed.{wellFormed}
 use Rattle.access.specs.Work.{worked, outcomeOf}
 use Rattle.access.proofs.Answers.{answer-short}
 use Rattle.station.specs.Parts.{farms, stationSize, partOf, freshStation}
 use Rattle.station.specs.Frame.{frameRefusal, frameReply}
-use Rattle.drive.specs.Cycle.{cycleOf}
-use Rattle.part.specs.Record.{driveOf}
 use Rattle.station.specs.Cycle.{Sent, inputOf, cycleRefusal, cycleAnswer}
-use Rattle.station.proofs.Cycles.{tells-what-it-did}
 use Rattle.station.specs.Runs.{callsBy, answersTo, SameSeen, runAnswers, runEnd}
 use Rattle.station.specs.Isolation.{Isolated, answer, after, machine}
 use Rattle.station.specs.Calls.{Call, cycle, frame, toFrame, owner, kinds}
 use Rattle.station.specs.Worked.{marksFrame, fetchFrame, workedCalls, endedPart}
 use Rattle.station.specs.Laws.{numberIn, Refuses, WellFormedStation, SentFits, AtRest, replied, Exchanged}
 use Rattle.station.proofs.Sizes.{isolated-station, keeps-size, keeps-others}
+use Rattle.station.proofs.Cycles.{tells-what-it-did}
 use Rattle.station.proofs.Outcome.{block-numbered}
 use Rattle.station.proofs.Refusals.{numbered-by-table, is-refused, empty-reply, reply-stands, foreign-axis, unreadable-block}
 use Rattle.station.proofs.Stays.{fresh-parts, never-ill-formed}
