@@ -28,9 +28,6 @@ plus-at (m ∷ ms) (n ∷ ns) e zero h = refl
 plus-at (m ∷ ms) (n ∷ ns) e (suc i) h = plus-at ms ns (omega arith) i (omega arith)
 
 -- the counts tested from a place on
-pub reached : (l : List ℕ) (i : ℕ) → i < length l → 2 ^ 64 ≤ getD l i 0 → reaches (drop i l) ≡ true
-reached l i h big = rw (drop-cons l i 0 h, le-leb (2 ^ 64) (getD l i 0) big)
-
 pub reach-next : (l : List ℕ) (i : ℕ) → i < length l → getD l i 0 < 2 ^ 64 → reaches (drop i l) ≡ reaches (drop (i + 1) l)
 reach-next l i h small = rw (drop-cons l i 0 h, lt-leb (2 ^ 64) (getD l i 0) small, add-one i)
 
@@ -40,6 +37,7 @@ reach-end [] (suc i) h = refl
 reach-end (n ∷ l) zero h = absurd (omega arith)
 reach-end (n ∷ l) (suc i) h = reach-end l i (omega arith)
 
+-- all of them
 pub some-reaches : (l : List ℕ) (i : ℕ) → i < length l → 2 ^ 64 ≤ getD l i 0 → reaches l ≡ true
 some-reaches [] i h big = absurd (omega arith)
 some-reaches (n ∷ l) zero h big = rw (le-leb (2 ^ 64) n big)

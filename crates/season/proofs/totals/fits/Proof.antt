@@ -7,7 +7,7 @@ use lib.ListN.{length, drop}
 use borrow.Author.Needs.{needs}
 use denote.Ref.{now}
 use Rattle.season.specs.Season.{plus, reaches}
-use Rattle.season.proofs.Sums.{plus-length, plus-at, reached, reach-next, reach-end}
+use Rattle.season.proofs.Sums.{plus-length, plus-at, some-reaches, reach-next, reach-end}
 use Rattle.season.proofs.totals.fits.Statement.{statement}
 use Rattle.season.proofs.totals.fits.Tie as tie
 
@@ -40,8 +40,8 @@ returns c =
     let a = c .before .before .before .before .before .args in
     let i = c .before .before .before .before .loop .i in
     let sums = plus (now (a .totals)) (now (a .counts)) in
-    let big = reached sums i (omega (arith, plus-length (now (a .totals)) (now (a .counts)) (c .before .before .before .before .before .pre))) (omega (arith, plus-at (now (a .totals)) (now (a .counts)) (c .before .before .before .before .before .pre) i (omega arith))) in
-    ap not (sym big ∙ c .before .before .before .before .loop .inv)
+    let big = some-reaches sums i (omega (arith, plus-length (now (a .totals)) (now (a .counts)) (c .before .before .before .before .before .pre))) (omega (arith, plus-at (now (a .totals)) (now (a .counts)) (c .before .before .before .before .before .pre) i (omega arith))) in
+    ap not (sym big)
 
 add-i : tie.Need-add-i Inv-loop μ-loop
 add-i c = search needs
