@@ -27,7 +27,7 @@ record-some : (r : List ℕ) → isRecord r ≡ true → 1 ≤ length r
 record-some r is = omega (arith, record-whole r is, record-sizes (getD r 0 0) .0)
 
 -- what is left grows shorter
-pub shorter : (bs : List ℕ) (n : ℕ) → length bs ≤ suc n → length (pastRecord bs) ≤ n
+shorter : (bs : List ℕ) (n : ℕ) → length bs ≤ suc n → length (pastRecord bs) ≤ n
 unfolding pastRecord
 shorter bs n h = omega (arith, length-drop (recordLength (getD bs 0 0)) bs, record-sizes (getD bs 0 0) .0)
 
@@ -102,11 +102,28 @@ enough-bytes bs more long =
     ap (λ (k : ℕ). take (recordLength k) (bs ++ more)) (List·getD-append bs more 0 0 (omega arith))
     ∙ take-append-le (recordLength (getD bs 0 0)) bs more (omega (arith, record-sizes (getD bs 0 0) .1))
 
+-- what holds of no bytes, of a record where it holds past it, and of what is bad, holds of every journal
+module _ (P : ℕ → List ℕ → List ℕ → Type 0)
+    (at-end : (n : ℕ) (s : List ℕ) → P n [] s)
+    (at-record : (n b : ℕ) (bs s : List ℕ) → let r = nextRecord (b ∷ bs) in isRecord r ≡ true → P n (pastRecord (b ∷ bs)) (after kinds (callOf r) s) → P (suc n) (b ∷ bs) s)
+    (at-bad : (n b : ℕ) (bs s : List ℕ) → isRecord (nextRecord (b ∷ bs)) ≡ false → P (suc n) (b ∷ bs) s) where
+  pub by-pieces : (n : ℕ) (bs s : List ℕ) → length bs ≤ n → P n bs s
+  by-pieces zero [] s h = at-end zero s
+  by-pieces zero (b ∷ bs) s h = absurd (omega arith)
+  by-pieces (suc n) [] s h = at-end (suc n) s
+  by-pieces (suc n) (b ∷ bs) s h =
+      let r = nextRecord (b ∷ bs) in
+      cases (isRecord r) (λ is. at-record n b bs s is (by-pieces n (pastRecord (b ∷ bs)) (after kinds (callOf r) s) (shorter (b ∷ bs) n h))) (at-bad n b bs s)
+
 -- pieces played, by at most n of them
 abbrev Plays : ℕ → List ℕ → List ℕ → Type 0
 Plays n bs s = played (piecesIn n bs) s ≡ lines (history (calls (partedIn n bs)) s) ++ endLine (partedIn n bs .left)
 
--- a record, and the pieces past it
+play-end : (n : ℕ) (s : List ℕ) → Plays n [] s
+unfolding played history
+play-end zero s = refl
+play-end (suc n) s = rw none
+
 play-record : (n b : ℕ) (bs s : List ℕ) → let r = nextRecord (b ∷ bs) in isRecord r ≡ true
     → Plays n (pastRecord (b ∷ bs)) (after kinds (callOf r) s) → Plays (suc n) (b ∷ bs) s
 unfolding recordLine recordAfter played history
@@ -116,18 +133,9 @@ play-bad : (n b : ℕ) (bs s : List ℕ) → isRecord (nextRecord (b ∷ bs)) �
 unfolding recordLine played history
 play-bad n b bs s isnt = rw isnt
 
-plays-in : (n : ℕ) (bs s : List ℕ) → length bs ≤ n → Plays n bs s
-unfolding played history
-plays-in zero [] s h = refl
-plays-in zero (b ∷ bs) s h = absurd (omega arith)
-plays-in (suc n) [] s h = rw none
-plays-in (suc n) (b ∷ bs) s h =
-    let r = nextRecord (b ∷ bs) in
-    cases (isRecord r) (λ is. play-record n b bs s is (plays-in n (pastRecord (b ∷ bs)) (after kinds (callOf r) s) (shorter (b ∷ bs) n h))) (play-bad n b bs s)
-
 pub plays-whole : PlaysWhole
 unfolding replayFrom parted pieces
-plays-whole bs s = plays-in (length bs) bs s (omega arith)
+plays-whole bs s = by-pieces Plays play-end play-record play-bad (length bs) bs s (omega arith)
 
 pub replays-whole : ReplaysWhole
 replays-whole bs = plays-whole bs (freshParts farms)

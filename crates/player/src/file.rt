@@ -23,7 +23,7 @@ struct Step {
     window: Window,
 }
 
-// How much output is collected, how it goes on, and after how many records.
+// How much output is collected, how it goes on, and at which record, counted from 1, it went on no more.
 struct Reached {
     used: usize,
     went: Went,
