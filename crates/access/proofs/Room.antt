@@ -8,12 +8,10 @@ use lib.Dec.{eqb, leb}
 use lib.ListN.{length, length-append}
 use borrow.Author.Tests.{le-leb, lt-leb, leb-true}
 use Rattle.codes.specs.Code.{writeAll}
-use Rattle.codes.proofs.Fixed.{small}
 use Rattle.blocks.specs.Block.{Block, blockLimit, valuesSize}
 use Rattle.blocks.specs.Page.{blockBytes}
 use Rattle.blocks.specs.Place.{putBlock}
 use Rattle.blocks.specs.declared.reader.Address.{Address}
-use Rattle.blocks.proofs.Blocks.{size-small, values-size}
 use Rattle.blocks.proofs.Parts.{block-written, block-counted, error-bytes}
 use Rattle.drive.specs.Faults.{bufferCodes}
 use Rattle.catalogue.specs.declared.Kind.{Kind}
@@ -26,10 +24,6 @@ use Rattle.access.specs.Address.{checked, errorBlock}
 use Rattle.access.specs.Read.{elementsFrom, blockSize, fitted, answerTo, readBlock, readBlocks}
 use Rattle.access.specs.Walk.{Wrote}
 use Rattle.access.proofs.Gathered.{elements-length}
-
--- values that an array of elements holds take few bytes
-pub values-few : (f n : ℕ) → n ≤ bufferCodes → valuesSize f n ≤ 1020
-values-few f n h = rw (values-size f n) (small n _ (omega arith) (size-small f))
 
 pub size-written : (b : Block) → blockSize b ≡ length (blockBytes b)
 size-written b = block-written (b .format) (length (b .values)) (b .values) refl

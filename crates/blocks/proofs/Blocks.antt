@@ -1,24 +1,25 @@
 -- Where a block of values stands, ends and holds its values.
-use mathlib.Core.Path.{_≡_, refl, sym, _∙_, ap}
-use mathlib.Core.List.{List, _∷_, _++_, append-nil}
-use mathlib.Core.Bool.{Bool, true, false, cond}
-use Prim.Native.Nat.{ℕ, suc, _+_, _-_, _*_, _≤_, _<_}
+use mathlib.Core.Path.{_≡_, refl, sym, _∙_, ap, ap₂}
+use mathlib.Core.List.{List, _∷_, _++_, append-nil, append-assoc}
+use mathlib.Core.Bool.{Bool, true, false, true≢false, cond, _||_}
+use Prim.Native.Nat.{ℕ, zero, suc, _+_, _-_, _*_, _%_, _≤_, _<_}
 use native.Mathlib.Omega.{arith}
 use native.Mathlib.Decide.{decLe}
 use native.Mathlib.Nat.{mul-le-mul-right}
 use lib.ListN.{length, getD, drop, replicate, length-replicate, length-append, length-drop, List·getD-eq-default}
 use lib.Seq.{drop-drop}
 use lib.Dec.{eqb, lit≤}
-use Rattle.codes.specs.Code.{Got, got, bad, readTimes, AllOf, writeAll, word}
+use borrow.Author.Tests.{eqb-true, eqb-false}
+use Rattle.codes.specs.Code.{Got, got, bad, readTimes, AllOf, writeAll, fill, word}
 use Rattle.codes.specs.Number.{numberAt}
 use Rattle.codes.proofs.Sound.{word-sound}
-use Rattle.codes.proofs.Fixed.{Bytes, byte-at, byte-end, Fixed, fixed-word, fixed-times}
+use Rattle.codes.proofs.Fixed.{Bytes, byte-at, byte-end, Fixed, fixed-word, fixed-times, fill-zero, fill-other, small}
 use Rattle.codes.proofs.Items.{all-length, item-at, tail-stands, first-read}
 use Rattle.codes.proofs.Number.{number-is}
-use Rattle.codes.proofs.Put.{word-length}
+use Rattle.codes.proofs.Put.{word-length, fill-bytes}
 use Rattle.blocks.specs.declared.Head.{Head}
 use Rattle.blocks.specs.declared.BlockAt.the-variants.{Stands, Nothing}
-use Rattle.blocks.specs.Block.{Block, oneByte, twoBytes, fourBytes, formatSize, valueSize, changeBlockFits, valuesOf, valuesSize, block}
+use Rattle.blocks.specs.Block.{Block, oneByte, twoBytes, fourBytes, formatSize, valueSize, changeBlockFits, fillSize, valuesOf, valuesSize, block}
 use Rattle.blocks.specs.Place.{headOf, blockAt, valueAt}
 use Rattle.blocks.specs.Walk.{blockBy}
 use Rattle.blocks.proofs.Sound.{block-sound, values-sound, values-count}
@@ -36,14 +37,84 @@ size-small f =
     (at-most (twoBytes f) 2 _ (lit≤ tt)
     (at-most (fourBytes f) 4 0 (lit≤ tt) (lit≤ tt))))
 
--- the size of n values is n times that of one
-pub values-size : (f n : ℕ) → valuesSize f n ≡ n * valueSize f
-unfolding valuesSize valuesOf
-values-size f n = all-length (word (valueSize f) .write) (valueSize f) (word-length (valueSize f)) (replicate n 0) ∙ ap (λ (k : ℕ). k * valueSize f) (length-replicate n 0)
+-- what fills the values makes their bytes even in number: no other format than a byte's has an odd size
+even-sizes : (e o t q : Bool) → (e ≡ true → o ≡ false) → (n : ℕ) → cond o (n % 2) 0 ≡ n * cond e 2 (cond o 1 (cond t 2 (cond q 4 0))) % 2
+even-sizes true true t q h n = absurd (true≢false (h refl))
+even-sizes true false t q h n = omega arith
+even-sizes false true t q h n = omega arith
+even-sizes false false true q h n = omega arith
+even-sizes false false false true h n = omega arith
+even-sizes false false false false h n = omega arith
 
-fixed-values : (f n : ℕ) → Fixed (valuesOf f n) (valuesSize f n)
+pub fill-even : (f n : ℕ) → fillSize f n ≡ n * valueSize f % 2
+unfolding valueSize formatSize
+fill-even f n = even-sizes (eqb f 0x44) (oneByte f) (twoBytes f) (fourBytes f) (λ e. rw (eqb-true f 0x44 e) refl) n
+
+-- the bytes of n values: n times those of one, and what fills them up
+values-length : (f n : ℕ) (vs : List ℕ) → length vs ≡ n → length (valuesOf f n .write vs) ≡ n * valueSize f + fillSize f n
 unfolding valuesOf
-fixed-values f n = rw (values-size f n) (fixed-times (word (valueSize f)) (valueSize f) (fixed-word (valueSize f)) n)
+values-length f n vs e =
+    let w = valueSize f in
+    let all : length (writeAll (word w .write) vs) ≡ n * w = all-length (word w .write) w (word-length w) vs ∙ ap (λ (k : ℕ). k * w) e in
+    let rest : length (fill (fillSize f n) vs .write vs) ≡ fillSize f n = ap length (fill-bytes (fillSize f n) vs vs) ∙ length-replicate (fillSize f n) 0 in
+    omega (arith, length-append (writeAll (word w .write) vs) (fill (fillSize f n) vs .write vs))
+
+pub values-size : (f n : ℕ) → valuesSize f n ≡ n * valueSize f + fillSize f n
+unfolding valuesSize
+values-size f n = values-length f n (replicate n 0) (length-replicate n 0)
+
+-- 1020 is even: filled up, no more values than a byte counts take more
+pub values-few : (f n : ℕ) → n < 256 → valuesSize f n ≤ 1020
+values-few f n h = omega (arith, values-size f n, fill-even f n, small n (valueSize f) h (size-small f))
+
+-- fewer bytes hold no such values
+values-short : (f n : ℕ) (s : List ℕ) → length s < valuesSize f n → valuesOf f n .read s ≡ bad
+values-short f n s h = go (valuesOf f n .read s) refl
+  where
+    go : (g : Got (List ℕ)) → valuesOf f n .read s ≡ g → valuesOf f n .read s ≡ bad
+    go (got vs t) e =
+        let o = values-sound f n .only s vs t e in
+        absurd (omega (arith, ap length (o .1), length-append (valuesOf f n .write vs) t, values-length f n vs (values-count f n vs (o .0)), values-size f n))
+    go bad e = e
+
+-- at most one byte fills them
+pub fill-small : (f n : ℕ) → fillSize f n ≤ 1
+fill-small f n = omega (arith, fill-even f n)
+
+-- The values at a place, where all their bytes stand in the list: they are read if what fills them up is zero.
+module _ (f n : ℕ) (s : List ℕ) (b : Bytes s) (at : ℕ) (h : at + valuesSize f n ≤ length s) where
+  abbrev place : ℕ
+  place = at + n * valueSize f
+
+  abbrev filled : Bool
+  filled = eqb (fillSize f n) 0 || eqb (getD s place 0) 0
+
+  -- which the code tests by the sizes that it has
+  tested : (k z : ℕ) → k ≡ fillSize f n → z ≡ valuesSize f n → filled ≡ eqb k 0 || eqb (getD s (at + z - k) 0) 0
+  tested k z ek ez = ap₂ (λ (x y : ℕ). eqb x 0 || eqb (getD s y 0) 0) (sym ek) (omega (arith, values-size f n))
+
+  bare : (vs : List ℕ) × (readTimes (word (valueSize f) .read) n (drop at s) ≡ got vs (drop place s))
+  bare = fixed-times (word (valueSize f)) (valueSize f) (fixed-word (valueSize f)) n .enough s b at (omega (arith, values-size f n))
+
+  values-filled : filled ≡ true → (vs : List ℕ) × (valuesOf f n .read (drop at s) ≡ got vs (drop (at + valuesSize f n) s))
+  unfolding valuesOf
+  values-filled t = (bare .0, rw (bare .1) (go (fillSize f n) refl))
+    where
+      go : (k : ℕ) → fillSize f n ≡ k → fill k (bare .0) .read (drop place s) ≡ got (bare .0) (drop (at + valuesSize f n) s)
+      go zero e = let z : place ≡ at + valuesSize f n = omega (arith, values-size f n) in rw z
+      go (suc zero) e =
+          let z : place + 1 ≡ at + valuesSize f n = omega (arith, values-size f n) in
+          fill-zero (bare .0) 0 s b place (omega arith) (eqb-true _ 0 (rw e at t)) ∙ rw z
+      go (suc (suc k)) e = absurd (omega (arith, fill-small f n))
+
+  values-unfilled : filled ≡ false → valuesOf f n .read (drop at s) ≡ bad
+  unfolding valuesOf
+  values-unfilled t = rw (bare .1) (go (fillSize f n) refl)
+    where
+      go : (k : ℕ) → fillSize f n ≡ k → fill k (bare .0) .read (drop place s) ≡ bad
+      go zero e = absurd (true≢false (rw e at t))
+      go (suc zero) e = fill-other (bare .0) 0 s b place (omega (arith, values-size f n)) (eqb-false _ 0 (rw e at t))
+      go (suc (suc k)) e = absurd (omega (arith, fill-small f n))
 
 -- The block at a place: two bytes, the format and the count, and then the values.
 module _ (fits : ℕ → ℕ → Bool) (s : List ℕ) (b : Bytes s) (at : ℕ) where
@@ -76,15 +147,28 @@ module _ (fits : ℕ → ℕ → Bool) (s : List ℕ) (b : Bytes s) (at : ℕ) w
       pub block-short : length s < at + 2 + valuesSize f n → Nothing ≡ blockBy fits s at
       unfolding block
       block-short l =
-          nothing (rw (byte-at s b at (omega arith), byte-at s b (at + 1) (omega arith), e, two, fixed-values f n .short s b (at + 2) h l))
+          nothing (rw (byte-at s b at (omega arith), byte-at s b (at + 1) (omega arith), e, two, values-short f n (drop (at + 2) s) (omega (arith, length-drop (at + 2) s))))
 
-      pub block-long : at + 2 + valuesSize f n ≤ length s → Stands (record { format = f; count = n; next = at + 2 + valuesSize f n }) ≡ blockBy fits s at
-      unfolding block
-      block-long l =
-          let v = fixed-values f n .enough s b (at + 2) l in
-          let c = values-count f n (v .0) (values-sound f n .only (drop (at + 2) s) (v .0) _ (v .1) .0) in
-          let k : length s - length (drop (at + 2 + valuesSize f n) s) ≡ at + 2 + valuesSize f n = omega (arith, length-drop (at + 2 + valuesSize f n) s) in
-          rw (byte-at s b at (omega arith), byte-at s b (at + 1) (omega arith), e, two, v .1, c, k)
+      -- with room for the values, by the sizes and the test that the code has
+      module _ (k z : ℕ) (ek : k ≡ fillSize f n) (ez : z ≡ valuesSize f n) (l : at + 2 + z ≤ length s) (r : Bool) (er : r ≡ eqb k 0 || eqb (getD s (at + 2 + z - k) 0) 0) where
+        room : at + 2 + valuesSize f n ≤ length s
+        room = omega (arith, ez)
+
+        test : filled f n s b (at + 2) room ≡ r
+        test = tested f n s b (at + 2) room k z ek ez ∙ sym er
+
+        pub block-unfilled : r ≡ false → Nothing ≡ blockBy fits s at
+        unfolding block
+        block-unfilled t =
+            nothing (rw (byte-at s b at (omega arith), byte-at s b (at + 1) (omega arith), e, two, values-unfilled f n s b (at + 2) room (test ∙ t)))
+
+        pub block-long : r ≡ true → Stands (record { format = f; count = n; next = at + 2 + z }) ≡ blockBy fits s at
+        unfolding block
+        block-long t =
+            let v = values-filled f n s b (at + 2) room (test ∙ t) in
+            let c = values-count f n (v .0) (values-sound f n .only (drop (at + 2) s) (v .0) _ (v .1) .0) in
+            let k : length s - length (drop (at + 2 + valuesSize f n) s) ≡ at + 2 + valuesSize f n = omega (arith, length-drop (at + 2 + valuesSize f n) s) in
+            rw (byte-at s b at (omega arith), byte-at s b (at + 1) (omega arith), e, two, v .1, c, k, ez)
 
 -- a block that stands, as the layout reads it
 pub record Stood (fits : ℕ → ℕ → Bool) (s : List ℕ) (at : ℕ) (h : Head) : Type 0 where
@@ -146,22 +230,30 @@ block-step fits s at n b bs t e =
 
 values-valid : (fits : ℕ → ℕ → Bool) (b : Block) → block fits .Valid b → AllOf (word (valueSize (b .format)) .Valid) (b .values)
 unfolding block valuesOf
-values-valid fits b v = v .1 .1 .0 .1
+values-valid fits b v = v .1 .1 .0 .0 .1
 
 block-two : (fits : ℕ → ℕ → Bool) (b : Block) → 2 ≤ length (block fits .write b)
 unfolding block
 block-two fits b = omega arith
 
-values-tail : (fits : ℕ → ℕ → Bool) (s : List ℕ) (at : ℕ) (b : Block) (t : List ℕ) → drop at s ≡ block fits .write b ++ t → drop (at + 2) s ≡ writeAll (word (valueSize (b .format)) .write) (b .values) ++ t
+-- after its values stands what fills them up
+abbrev after : Block → List ℕ → List ℕ
+after b t = fill (fillSize (b .format) (length (b .values))) (b .values) .write (b .values) ++ t
+
+values-tail : (fits : ℕ → ℕ → Bool) (s : List ℕ) (at : ℕ) (b : Block) (t : List ℕ) → drop at s ≡ block fits .write b ++ t → drop (at + 2) s ≡ writeAll (word (valueSize (b .format)) .write) (b .values) ++ after b t
 unfolding block valuesOf
-values-tail fits s at b t e = sym (drop-drop 2 at s) ∙ (ap (drop 2) e ∙ ap (λ (l : List ℕ). l ++ t) (append-nil (writeAll (word (valueSize (b .format)) .write) (b .values))))
+values-tail fits s at b t e =
+    let vs = b .values in
+    let all = writeAll (word (valueSize (b .format)) .write) vs in
+    let fills = fill (fillSize (b .format) (length vs)) vs .write vs in
+    sym (drop-drop 2 at s) ∙ (ap (drop 2) e ∙ (ap (λ (l : List ℕ). l ++ t) (append-nil (all ++ fills)) ∙ append-assoc all fills t))
 
 -- its values all stand in the list
 pub values-inside : (fits : ℕ → ℕ → Bool) (s : List ℕ) (at : ℕ) (b : Block) (t : List ℕ) → block fits .read (drop at s) ≡ got b t → at + 2 + length (b .values) * valueSize (b .format) ≤ length s
 values-inside fits s at b t e =
     let o = block-sound fits .only (drop at s) b t e in
     let w = valueSize (b .format) in
-    let v = ap length (values-tail fits s at b t (o .1)) ∙ length-append (writeAll (word w .write) (b .values)) t in
+    let v = ap length (values-tail fits s at b t (o .1)) ∙ length-append (writeAll (word w .write) (b .values)) (after b t) in
     omega (arith, v, all-length (word w .write) w (word-length w) (b .values), length-drop (at + 2) s, length-drop at s, ap length (o .1), length-append (block fits .write b) t, block-two fits b)
 
 -- the j-th value of a block stands after its two bytes and j values
@@ -169,7 +261,7 @@ pub value-stands : (fits : ℕ → ℕ → Bool) (s : List ℕ) (at : ℕ) (b : 
 value-stands fits s at b t j e h =
     let w = valueSize (b .format) in
     let o = block-sound fits .only (drop at s) b t e in
-    let p = item-at (word w) (word-sound w) w (word-length w) 0 (b .values) (values-valid fits b (o .0)) t j h in
+    let p = item-at (word w) (word-sound w) w (word-length w) 0 (b .values) (values-valid fits b (o .0)) (after b t) j h in
     number-is w s (at + 2 + j * w) (getD (b .values) j 0) (p .0) (size-small (b .format))
     (ap (word w .read) (sym (drop-drop (j * w) (at + 2) s) ∙ ap (drop (j * w)) (values-tail fits s at b t (o .1))) ∙ p .1)
 

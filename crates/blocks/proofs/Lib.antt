@@ -7,3 +7,5 @@ pub mod Readable
 pub mod Request
 pub mod Addresses
 pub mod Parts
+pub mod Even
+pub mod Instances

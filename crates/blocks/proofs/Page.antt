@@ -10,11 +10,11 @@ use lib.ListN.{length}
 use lib.Dec.{leb, eqb}
 use borrow.Author.Tests.{ltb-true, lt-ltb, leb-true, le-leb, ne-eqb}
 use Rattle.codes.specs.Code.{AllOf, writeAll, byte, within, word}
-use Rattle.codes.proofs.Sound.{word-valid, valid-word}
-use Rattle.codes.proofs.Put.{word-length}
+use Rattle.codes.proofs.Sound.{word-valid, valid-word, fill-valid}
+use Rattle.codes.proofs.Put.{word-length, fill-bytes}
 use Rattle.codes.proofs.Demand.{both}
 use Rattle.blocks.specs.declared.reader.Address.{Address}
-use Rattle.blocks.specs.Block.{Block, block, changeBlockFits, responseBlockFits, valuesOf, valueSize}
+use Rattle.blocks.specs.Block.{Block, block, changeBlockFits, responseBlockFits, fillSize, valuesOf, valueSize}
 use Rattle.blocks.specs.Request.{Request, address, request}
 use Rattle.blocks.specs.Response.{Response, response, isAnswer}
 use Rattle.blocks.specs.Page.{From, AddressFits, BlockFits, RequestFits, ResponseFits, numberBytes, addressBytes, blockBytes, requestBytes, responseBytes}
@@ -41,7 +41,8 @@ address-bytes a = refl
 
 pub block-bytes : (fits : ℕ → ℕ → Bool) (b : Block) → block fits .write b ≡ blockBytes b
 unfolding block valuesOf
-block-bytes fits b = ap (λ (l : List ℕ). b .format ∷ length (b .values) ∷ l) (append-nil _ ∙ numbers-bytes (valueSize (b .format)) (b .values))
+block-bytes fits b =
+    rw (append-nil, numbers-bytes (valueSize (b .format)) (b .values), fill-bytes (fillSize (b .format) (length (b .values))) (b .values) (b .values))
 
 pub request-bytes : (r : Request) → request .write r ≡ requestBytes r
 unfolding request
@@ -86,9 +87,9 @@ block-valid fits b = (
     format = byte-valid _ .0 (v .0);
     number = byte-valid _ .0 (v .1 .0 .0);
     allowed = v .1 .0 .1;
-    values = all-map _ _ (λ x. word-valid (valueSize (b .format)) x) (b .values) (v .1 .1 .0 .1);
+    values = all-map _ _ (λ x. word-valid (valueSize (b .format)) x) (b .values) (v .1 .1 .0 .0 .1);
   },
-  λ h. (byte-valid _ .1 (h .format), ((byte-valid _ .1 (h .number), h .allowed), ((refl, all-map _ _ (λ x. valid-word (valueSize (b .format)) x) (b .values) (h .values)), refl))),
+  λ h. (byte-valid _ .1 (h .format), ((byte-valid _ .1 (h .number), h .allowed), (((refl, all-map _ _ (λ x. valid-word (valueSize (b .format)) x) (b .values) (h .values)), fill-valid (fillSize (b .format) (length (b .values))) (b .values)), refl))),
 )
 
 pub request-valid : (r : Request) → request .Valid r ↔ RequestFits r

@@ -4,9 +4,9 @@ use mathlib.Core.List.{List}
 use mathlib.Core.Bool.{Bool}
 use lib.ListN.{length}
 use Prim.Native.Nat.{ℕ}
-use Rattle.codes.proofs.Sound.{Sound, field-sound, give-sound, byte-sound, word-sound, within-sound, check-sound, times-sound}
+use Rattle.codes.proofs.Sound.{Sound, field-sound, give-sound, byte-sound, word-sound, within-sound, check-sound, times-sound, fill-sound, valid-fill}
 use Rattle.blocks.specs.declared.reader.Address.{Address}
-use Rattle.blocks.specs.Block.{Block, block, changeBlockFits, responseBlockFits, valuesOf, valueSize}
+use Rattle.blocks.specs.Block.{Block, block, changeBlockFits, responseBlockFits, fillSize, valuesOf, valueSize}
 use Rattle.blocks.specs.Request.{Request, address, request, requestBlocks}
 use Rattle.blocks.specs.Response.{Response, response, responseBlocks, errorsFit}
 
@@ -25,12 +25,13 @@ address-sound =
 
 pub values-sound : (f n : ℕ) → Sound (valuesOf f n)
 unfolding valuesOf
-values-sound f n = times-sound _ (word-sound (valueSize f)) n
+values-sound f n =
+    field-sound _ _ _ (times-sound _ (word-sound (valueSize f)) n) (fill-sound (fillSize f n)) (λ vs us v w. valid-fill (fillSize f n) vs us w)
 
 -- as many values as were counted
 pub values-count : (f n : ℕ) (vs : List ℕ) → valuesOf f n .Valid vs → length vs ≡ n
 unfolding valuesOf
-values-count f n vs v = v .0
+values-count f n vs v = v .0 .0
 
 pub block-sound : (fits : ℕ → ℕ → Bool) → Sound (block fits)
 unfolding block

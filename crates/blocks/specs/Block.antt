@@ -1,10 +1,10 @@
--- Document 01, "Request block" and "Response block": what both are made of. A block is high byte first, of at most 240 bytes.
+-- Document 01, "Request block" and "Response block", with 02's R-2: what both are made of. A block is high byte first, of at most 240 bytes.
 use mathlib.Core.List.{List}
 use mathlib.Core.Bool.{Bool, cond, _&&_, _||_}
-use Prim.Native.Nat.{ℕ}
+use Prim.Native.Nat.{ℕ, _%_}
 use lib.ListN.{length, replicate}
 use lib.Dec.{leb, ltb, eqb}
-use Rattle.codes.specs.Code.{Code, field, give, byte, check, times, word}
+use Rattle.codes.specs.Code.{Code, field, give, byte, check, times, fill, word}
 
 -- "4 to 240 bytes"
 abbrev pub blockLimit : ℕ
@@ -53,11 +53,15 @@ responseBlockFits id f n =
     (cond (eqb id 0x81) (valueFits f n || errorFits f n)
     (emptyFits f n || errorFits f n))
 
--- n values of the format f. "Byte values are followed by nothing, however many"
-unfoldable pub valuesOf : ℕ → ℕ → Code (List ℕ)
-valuesOf f n = times n (word (valueSize f))
+-- R-2: "an odd number of byte values is followed by one zero byte", other values by none
+abbrev pub fillSize : ℕ → ℕ → ℕ
+fillSize f n = cond (oneByte f) (n % 2) 0
 
--- the bytes that they take, whatever the values
+-- n values of the format f. "The count leaves it out"
+unfoldable pub valuesOf : ℕ → ℕ → Code (List ℕ)
+valuesOf f n = field (λ vs. vs) (times n (word (valueSize f))) (fill (fillSize f n))
+
+-- the bytes that they take, whatever the values. "The length and the 0x15 rule count it"
 unfoldable pub valuesSize : ℕ → ℕ → ℕ
 valuesSize f n = length (valuesOf f n .write (replicate n 0))
 

@@ -4,3 +4,4 @@ pub mod Response
 pub mod Page
 pub mod Place
 pub mod Walk
+pub mod Laws

@@ -1,13 +1,13 @@
--- Document 01, "Request block" and "Response block", in plain words: for each, the values that are valid and the bytes that are
+-- Document 01, "Request block" and "Response block", with 02's R-2, in plain words: for each, the values that are valid and the bytes that are
 -- written. The codes of Request.antt and Response.antt say exactly this (proofs/Page.antt).
 use mathlib.Core.Path.{_≡_}
 use mathlib.Core.List.{List, [], _∷_, _++_}
 use mathlib.Core.Bool.{Bool, true}
 use Prim.Native.Nat.{ℕ, zero, suc, _≤_, _<_, _/_, _%_, _^_}
-use lib.ListN.{length}
+use lib.ListN.{length, replicate}
 use Rattle.codes.specs.Code.{AllOf, writeAll}
 use Rattle.blocks.specs.declared.reader.Address.{Address}
-use Rattle.blocks.specs.Block.{Block, valueSize, changeBlockFits, responseBlockFits}
+use Rattle.blocks.specs.Block.{Block, valueSize, fillSize, changeBlockFits, responseBlockFits}
 use Rattle.blocks.specs.Request.{Request, requestBlocks}
 use Rattle.blocks.specs.Response.{Response, isAnswer, responseBlocks, errorsFit}
 
@@ -54,8 +54,11 @@ numberBytes (suc n) x = numberBytes n (x / 256) ++ (x % 256 ∷ [])
 abbrev pub addressBytes : Address → List ℕ
 addressBytes a = a .attribute ∷ a .elements ∷ numberBytes 2 (a .pnu) ++ numberBytes 2 (a .subindex)
 
+-- "an odd number of byte values is followed by one zero byte"
 abbrev pub blockBytes : Block → List ℕ
-blockBytes b = b .format ∷ length (b .values) ∷ writeAll (numberBytes (valueSize (b .format))) (b .values)
+blockBytes b =
+    b .format ∷ length (b .values)
+    ∷ writeAll (numberBytes (valueSize (b .format))) (b .values) ++ replicate (fillSize (b .format) (length (b .values))) 0
 
 abbrev pub requestBytes : Request → List ℕ
 requestBytes r =

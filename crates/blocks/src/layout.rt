@@ -1,7 +1,7 @@
 // Formats, their sizes, and which blocks may stand where.
 ghost use mathlib.Core.Path.{_≡_};
-ghost use Prim.Native.Nat.{_≤_};
-ghost use Rattle.blocks.specs.Block.{formatSize, valueSize, valueFits, errorFits, emptyFits, responseBlockFits, valuesSize};
+ghost use Prim.Native.Nat.{_*_, _≤_};
+ghost use Rattle.blocks.specs.Block.{formatSize, valueSize, valueFits, errorFits, emptyFits, responseBlockFits, fillSize, valuesSize};
 ghost use Rattle.blocks.specs.Request.{requestBlocks};
 ghost use Rattle.blocks.specs.Response.{responseBlocks, isAnswer};
 ghost use Rattle.blocks.specs.Walk.{ruleOf};
@@ -30,11 +30,25 @@ pub fn value_size(f: u8) -> usize
     if f == 0x44 { 2 } else { format_size(f) }
 }
 
-// Bytes of n values of the format f.
+// Bytes of n values of the format f, without the one that may fill them up.
+fn bare_size(f: u8, n: u8) -> usize
+    ensures { λ r. ⌜ (r ≡ n * valueSize f) × (r ≤ 1020) ⌝ }
+{
+    codes::wide(n) * value_size(f)
+}
+
+// Bytes that fill n values of the format f up to an even number.
+pub fn fill_size(f: u8, n: u8) -> usize
+    ensures { λ r. ⌜ (r ≡ fillSize f n) × (r ≤ 1) ⌝ }
+{
+    bare_size(f, n) % 2
+}
+
+// Bytes of n values of the format f, filled up.
 pub fn values_size(f: u8, n: u8) -> usize
     ensures { λ r. ⌜ (r ≡ valuesSize f n) × (r ≤ 1020) ⌝ }
 {
-    codes::wide(n) * value_size(f)
+    bare_size(f, n) + fill_size(f, n)
 }
 
 fn value_fits(f: u8, n: u8) -> bool

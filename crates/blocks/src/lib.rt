@@ -1,7 +1,9 @@
 // Request and response blocks: which are readable, what stands where in one, and how a response is written.
 ghost use mathlib.Core.Path.{_≡_};
-ghost use Prim.Native.Nat.{_≤_};
-ghost use lib.ListN.{length, drop};
+ghost use mathlib.Core.Bool.{_||_};
+ghost use Prim.Native.Nat.{_+_, _≤_};
+ghost use lib.Dec.{eqb};
+ghost use lib.ListN.{length, getD, drop};
 ghost use Rattle.codes.specs.Code.{isWhole, times, readable};
 ghost use Rattle.blocks.specs.Block.{blockLimit, block};
 ghost use Rattle.blocks.specs.Request.{request};
@@ -57,6 +59,17 @@ pub fn header_of(s: &[u8]) -> Header
     }
 }
 
+// Whether the byte that fills up a block, if one does, is zero; it stands at `at`.
+fn is_filled(s: &[u8], at: usize, fill: usize) -> bool
+    requires { ⌜ at + fill ≤ length (now s) ⌝ }
+    ensures { λ r. ⌜ r ≡ (eqb fill 0 || eqb (getD (now (s .entry)) at 0) 0) ⌝ }
+{
+    if fill == 0 {
+        return true;
+    }
+    s[at] == 0
+}
+
 // The block of values at `at`, by the rule of those that it is one of.
 fn block_by(s: &[u8], at: usize, these: Blocks) -> BlockAt
     ensures { λ r. ⌜ r ≡ blockBy (ruleOf these) (now (s .entry)) at ⌝ }
@@ -69,21 +82,24 @@ fn block_by(s: &[u8], at: usize, these: Blocks) -> BlockAt
     }
     let f = s[at];
     let n = s[at + 1];
-    if layout::block_fits(these, f, n) {
-        let bytes = layout::values_size(f, n);
-        if bytes <= s.len() - 2 - at {
-            let h = Head {
-                format: f,
-                count: n,
-                next: at + 2 + bytes,
-            };
-            BlockAt::Stands(h)
-        } else {
-            BlockAt::Nothing
-        }
-    } else {
-        BlockAt::Nothing
+    if !layout::block_fits(these, f, n) {
+        return BlockAt::Nothing;
     }
+    let bytes = layout::values_size(f, n);
+    if s.len() - 2 - at < bytes {
+        return BlockAt::Nothing;
+    }
+    let next = at + 2 + bytes;
+    let fill = layout::fill_size(f, n);
+    if !is_filled(s, next - fill, fill) {
+        return BlockAt::Nothing;
+    }
+    let h = Head {
+        format: f,
+        count: n,
+        next,
+    };
+    BlockAt::Stands(h)
 }
 
 // The block of values of a change at `at`.

@@ -2,7 +2,7 @@
 ghost use mathlib.Core.Path.{_≡_};
 ghost use mathlib.Core.List.{[], _∷_};
 ghost use Prim.Native.Nat.{_+_, _*_, _≤_};
-ghost use lib.ListN.{length};
+ghost use lib.ListN.{length, replicate};
 ghost use Rattle.codes.specs.Code.{writeAll};
 ghost use Rattle.codes.specs.Number.{put};
 ghost use Rattle.blocks.specs.Block.{valuesSize};
@@ -22,7 +22,7 @@ pub fn put_header(out: &mut [u8], h: Header)
     out[3] = h.count;
 }
 
-// Bytes of a block of n values of the format f.
+// Bytes of a block of n values of the format f, filled up.
 pub fn block_size(f: u8, n: u8) -> usize
     ensures { λ r. ⌜ r ≡ 2 + valuesSize f n ⌝ }
 {
@@ -38,6 +38,16 @@ fn put_values(out: &mut [u8], at: usize, size: usize, values: &[u32])
     while j < values.len() {
         codes::put_number(out, at + j * size, size, values[j]);
         j += 1;
+    }
+}
+
+// Writes the byte that fills up a block, if one does, at `at`.
+fn put_fill(out: &mut [u8], at: usize, fill: usize)
+    requires { ⌜ (fill ≤ 1) × (at + fill ≤ length (now out)) ⌝ }
+    ensures { λ r. ⌜ now (out .exit) ≡ put (now (out .entry)) at (replicate fill 0) ⌝ }
+{
+    if fill == 1 {
+        out[at] = 0;
     }
 }
 
@@ -59,6 +69,8 @@ pub fn put_block(out: &mut [u8], at: usize, f: u8, values: &[u32])
     out[at] = f;
     out[at + 1] = n;
     put_values(out, at + 2, super::layout::value_size(f), values);
+    let fill = super::layout::fill_size(f, n);
+    put_fill(out, at + bytes - fill, fill);
 }
 
 // `40 00`: a parameter of a change that did not fail.

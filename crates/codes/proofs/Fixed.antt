@@ -9,8 +9,8 @@ use native.Mathlib.Decide.{decLe}
 use lib.ListN.{length, getD, drop, drop-of-length-le}
 use lib.Seq.{drop-cons}
 use lib.Dec.{lit≤, lit<}
-use borrow.Author.Tests.{lt-ltb}
-use Rattle.codes.specs.Code.{got, bad, Code, give, field, readTimes, times, byte, word}
+use borrow.Author.Tests.{lt-ltb, eq-eqb, ne-eqb}
+use Rattle.codes.specs.Code.{got, bad, Code, give, field, readTimes, times, byte, fill, word}
 use Rattle.codes.proofs.Sound.{word-sound, word-valid}
 
 abbrev pub Bytes : List ℕ → Type 0
@@ -82,6 +82,14 @@ module _ {A : Type 0} (c : Code A) (w : ℕ) (fc : Fixed c w) where
 
   pub fixed-times : (n : ℕ) → Fixed (times n c) (n * w)
   fixed-times n = record { enough = times-enough n; short = times-short n }
+
+-- A fill is read byte by byte where they are zero, and nowhere else.
+module _ {A : Type 0} (x : A) (n : ℕ) (s : List ℕ) (b : Bytes s) (at : ℕ) (h : at < length s) where
+  pub fill-zero : getD s at 0 ≡ 0 → fill (suc n) x .read (drop at s) ≡ fill n x .read (drop (at + 1) s)
+  fill-zero z = rw (byte-at s b at h, eq-eqb (getD s at 0) 0 z)
+
+  pub fill-other : (getD s at 0 ≡ 0 → ⊥) → fill (suc n) x .read (drop at s) ≡ bad
+  fill-other z = rw (byte-at s b at h, ne-eqb (getD s at 0) 0 z)
 
 -- a count of bytes that a byte says, of values of at most four bytes, is small
 pub small : (n z : ℕ) → n < 256 → z ≤ 4 → n * z ≤ 1020

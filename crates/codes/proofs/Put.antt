@@ -6,15 +6,19 @@ use native.Mathlib.Omega.{arith}
 use native.Mathlib.Numerals.{add-one}
 use native.Mathlib.Nat.{add-zero}
 use native.Mathlib.Decide.{decLe}
-use lib.ListN.{length, getD, take, drop, set, length-append, length-drop, take-append-drop, List·getD-append}
+use lib.ListN.{length, getD, take, drop, set, replicate, length-append, length-drop, take-append-drop, List·getD-append}
 use lib.Seq.{sets, sets-eq, length-take-le, take-set-le, take-at, drop-cons, drop-set-lt, drop-append-add, drop-drop, getD-set-same, getD-take, lt-length-set}
 use borrow.Author.Tests.{le-leb, lt-leb}
-use Rattle.codes.specs.Code.{word}
+use Rattle.codes.specs.Code.{fill, word}
 use Rattle.codes.specs.Number.{put}
 
 pub word-length : (w x : ℕ) → length (word w .write x) ≡ w
 word-length zero x = refl
 word-length (suc w) x = omega (arith, length-append (word w .write (x / 256)) (x % 256 ∷ []), word-length w (x / 256))
+
+pub fill-bytes : {A : Type 0} (n : ℕ) (x y : A) → fill n x .write y ≡ replicate n 0
+fill-bytes zero x y = refl
+fill-bytes (suc n) x y = ap (λ (l : List ℕ). 0 ∷ l) (fill-bytes n x y)
 
 module _ (l : List ℕ) (at : ℕ) (bs : List ℕ) where
   pub put-fits : at + length bs ≤ length l → put l at bs ≡ take at l ++ (bs ++ drop (at + length bs) l)

@@ -6,9 +6,9 @@ use mathlib.Core.Logic.{_↔_}
 use Prim.Native.Nat.{ℕ, zero, suc, _+_, _*_, _/_, _%_, _<_, _^_}
 use native.Mathlib.Omega.{arith}
 use lib.ListN.{length}
-use borrow.Author.Tests.{ltb-true, lt-ltb}
+use borrow.Author.Tests.{ltb-true, lt-ltb, eqb-true}
 use native.Mathlib.Nat.{pow-suc}
-use Rattle.codes.specs.Code.{Got, got, bad, Code, andThen, item, check, give, field, AllOf, writeAll, readTimes, times, byte, within, word, isWhole, readsAll}
+use Rattle.codes.specs.Code.{Got, got, bad, Code, andThen, item, check, give, field, AllOf, writeAll, readTimes, times, byte, within, fill, word, isWhole, readsAll}
 use Rattle.codes.specs.Demand.{Writable}
 
 pub record Sound {A : Type 0} (c : Code A) : Type 0 where
@@ -108,6 +108,19 @@ byte-sound = check-sound _ _ item-sound
 
 pub within-sound : (lo hi : ℕ) → Sound (within lo hi)
 within-sound lo hi = check-sound _ _ byte-sound
+
+pub fill-sound : {A : Type 0} (n : ℕ) (x : A) → Sound (fill n x)
+fill-sound zero x = give-sound x
+fill-sound (suc n) x = field-sound _ _ _ (check-sound _ _ byte-sound) (λ z. fill-sound n x) (λ z r v w. sym (eqb-true z 0 (v .1)))
+
+-- a fill tells no other value than the one that it was given
+pub fill-valid : {A : Type 0} (n : ℕ) (x : A) → fill n x .Valid x
+fill-valid zero x = refl
+fill-valid (suc n) x = (((tt, refl), refl), fill-valid n x)
+
+pub valid-fill : {A : Type 0} (n : ℕ) (x y : A) → fill n x .Valid y → y ≡ x
+valid-fill zero x y v = v
+valid-fill (suc n) x y v = valid-fill n x y (v .1)
 
 pub word-sound : (w : ℕ) → Sound (word w)
 word-sound zero = give-sound 0

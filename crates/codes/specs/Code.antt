@@ -5,7 +5,7 @@ use mathlib.Core.List.{List, [], _∷_, _++_}
 use mathlib.Core.Bool.{Bool, true, false, cond, _&&_}
 use Prim.Native.Nat.{ℕ, zero, suc, _+_, _*_, _/_, _%_}
 use lib.ListN.{length}
-use lib.Dec.{leb, ltb}
+use lib.Dec.{leb, ltb, eqb}
 
 -- what a reader finds: a value and the bytes after it, or nothing
 pub data Got (A : Type 0) : Type 0 where
@@ -79,6 +79,11 @@ byte = check (λ b. ltb b 256) item
 -- a byte between two limits, both included
 abbrev pub within : ℕ → ℕ → Code ℕ
 within lo hi = check (λ b. leb lo b && leb b hi) byte
+
+-- n bytes that are zero, and tell nothing: the value is x
+abbrev pub fill : {A : Type 0} → ℕ → A → Code A
+fill zero x = give x
+fill (suc n) x = field (λ y. 0) (check (λ b. eqb b 0) byte) (λ z. fill n x)
 
 -- a number of w bytes, high byte first
 abbrev pub word : ℕ → Code ℕ

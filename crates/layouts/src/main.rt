@@ -1,4 +1,4 @@
-// The layouts of document 01's request and response blocks, and both sides of each of their limits: a line for each case.
+// The layouts of document 01's request and response blocks, with 02's R-2, and both sides of each of their limits: a line for each case.
 ghost use Prim.Native.Nat.{_≤_};
 use blocks::BlockAt;
 use blocks::Header;
@@ -200,18 +200,86 @@ fn wrong_formats() {
     change(4, 2, 6);
 }
 
-// Zero values, an odd number of bytes, and the most bytes.
+// Zero values, and the most bytes.
 fn counts() {
     change(0x41, 0, 0);
     change(0x42, 0, 0);
     change(0x43, 0, 0);
     change(0x42, 0, 2);
+    change(0x41, 227, 227);
+    change(0x41, 227, 228);
+    change(0x41, 228, 228);
+    change(0x41, 229, 228);
+    change(0x41, 229, 230);
+}
+
+// An odd number of byte values without its fill, with it, and with a byte more; no other number has one.
+fn fill_sizes() {
     change(0x41, 1, 1);
     change(0x41, 1, 2);
-    change(5, 3, 3);
+    change(0x41, 1, 3);
+    change(0x41, 2, 3);
+    change(0x41, 0, 1);
+    change(2, 3, 3);
+    change(2, 3, 4);
     change(5, 3, 4);
-    change(0x41, 228, 228);
-    change(0x41, 229, 229);
+    change(5, 3, 5);
+    change(6, 1, 3);
+    change(7, 1, 5);
+}
+
+// A change of two parameters, whose blocks of values are these.
+fn filled(label: &[u8], values: &[u8]) {
+    let mut block = headed(header(7, 2, 1, 2));
+    codes::put_bytes(&mut block, 16, values);
+    if values.len() <= 228 {
+        asks(label, first(&block, 16 + values.len()));
+    }
+}
+
+// The fill is zero, and stands after each odd number of byte values.
+fn fills() {
+    filled(
+        b"a byte, filled, and a word",
+        b"\x41\x01\x03\x00\x42\x01\x00\x05",
+    );
+    filled(
+        b"a byte, filled with 01, and a word",
+        b"\x41\x01\x03\x01\x42\x01\x00\x05",
+    );
+    filled(
+        b"a byte, filled with FF, and a word",
+        b"\x41\x01\x03\xFF\x42\x01\x00\x05",
+    );
+    filled(b"a byte and a word", b"\x41\x01\x03\x42\x01\x00\x05");
+    filled(
+        b"a byte, filled twice, and a word",
+        b"\x41\x01\x03\x00\x00\x42\x01\x00\x05",
+    );
+    filled(
+        b"a byte and a word, filled at the end",
+        b"\x41\x01\x03\x42\x01\x00\x05\x00",
+    );
+    filled(
+        b"a word and a byte, filled",
+        b"\x42\x01\x00\x05\x05\x01\x03\x00",
+    );
+    filled(
+        b"a word and a byte, filled with 01",
+        b"\x42\x01\x00\x05\x05\x01\x03\x01",
+    );
+    filled(
+        b"two bytes, each filled",
+        b"\x41\x01\x03\x00\x41\x01\x29\x00",
+    );
+    filled(
+        b"two bytes, filled at the end",
+        b"\x41\x01\x03\x41\x01\x29\x00\x00",
+    );
+    filled(
+        b"two bytes in one block and a word",
+        b"\x41\x02\x03\x00\x42\x01\x00\x05",
+    );
 }
 
 fn response_headers() {
@@ -238,16 +306,20 @@ fn response_headers() {
 fn read_answers() {
     answer(1, 0x41, 3, 3);
     answer(1, 0x41, 3, 4);
+    answer(1, 0x41, 3, 5);
+    answer(1, 0x41, 2, 2);
+    answer(1, 0x41, 2, 3);
     answer(1, 0x42, 2, 4);
     answer(1, 0x42, 2, 3);
     answer(1, 0x43, 1, 4);
     answer(1, 0x42, 0, 0);
-    answer(1, 5, 1, 1);
+    answer(1, 5, 1, 2);
     answer(1, 6, 1, 2);
     answer(1, 0x40, 0, 0);
     answer(1, 0x44, 1, 2);
+    answer(1, 0x41, 233, 234);
     answer(1, 0x41, 234, 234);
-    answer(1, 0x41, 235, 235);
+    answer(1, 0x41, 235, 236);
     answer(3, 0x42, 1, 2);
     answer(0x81, 0x42, 1, 2);
     answer(0x81, 0x44, 1, 2);
@@ -278,7 +350,19 @@ fn pairs() {
     );
     answers(
         b"81 with two values",
-        b"\x07\x81\x01\x02\x42\x01\x00\x05\x41\x01\x03",
+        b"\x07\x81\x01\x02\x42\x01\x00\x05\x41\x01\x03\x00",
+    );
+    answers(
+        b"81 with a byte, filled, and error",
+        b"\x07\x81\x01\x02\x41\x01\x03\x00\x44\x01\x00\x02",
+    );
+    answers(
+        b"81 with a byte, filled with 01, and error",
+        b"\x07\x81\x01\x02\x41\x01\x03\x01\x44\x01\x00\x02",
+    );
+    answers(
+        b"81 with a byte and error",
+        b"\x07\x81\x01\x02\x41\x01\x03\x44\x01\x00\x02",
     );
     answers(
         b"81 with 40 00 and error",
@@ -372,11 +456,11 @@ fn reads(block: &[u8]) {
 
 fn readings() {
     reads(b"\x07\x02\x01\x01\x10\x02\x75\x31\x00\x00\x42\x02\x03\xE8\x0B\xB9");
-    // PNU 965 sub-index 1, and both site offsets: three bytes, then -100000 and 100000
+    // PNU 965 sub-index 1, and both site offsets: three bytes and their fill, then -100000 and 100000
     let two =
-        b"\xFF\x02\x10\x02\x10\x03\x03\xC5\x00\x01\x10\x02\x75\x34\x00\x00\x41\x03\x03\x29\xFF\x43\x02\xFF\xFE\x79\x60\x00\x01\x86\xA0";
+        b"\xFF\x02\x10\x02\x10\x03\x03\xC5\x00\x01\x10\x02\x75\x34\x00\x00\x41\x03\x03\x29\xFF\x00\x43\x02\xFF\xFE\x79\x60\x00\x01\x86\xA0";
     asks(b"two parameters", two);
-    asks(b"two parameters, one block", first(two, 21));
+    asks(b"two parameters, one block", first(two, 22));
     reads(two);
 }
 
@@ -388,13 +472,13 @@ fn print_array(label: &[u8], out: &[u8]) {
 }
 
 fn written_values() {
-    let mut out = [0xFFu8; 25];
+    let mut out = [0xFFu8; 26];
     put_header(&mut out, header(7, 1, 1, 3));
     put_block(&mut out, 4, 0x42, &[1000, 3000]);
     put_block(&mut out, 10, 0x41, &[3]);
-    put_block(&mut out, 13, 0x43, &[4294867296, 100000]);
+    put_block(&mut out, 14, 0x43, &[4294867296, 100000]);
     print_array(b"01 with two words, a byte and two double words", &out);
-    answers(b"its first 23 bytes", first(&out, 23));
+    answers(b"its first 24 bytes", first(&out, 24));
 }
 
 fn written_errors() {
@@ -410,15 +494,21 @@ fn written_errors() {
 fn fitting() {
     let mut out = [0xFFu8; 10];
     print_number(b"bytes of two words: ", block_size(0x42, 2) as u64);
+    print_number(b", of a byte: ", block_size(0x41, 1) as u64);
+    print_number(b", of two: ", block_size(0x41, 2) as u64);
     print(b"\n");
     put_block(&mut out, 5, 0x42, &[1000, 3000]);
     print_array(b"two words at 5 of 10", &out);
     put_error(&mut out, 7, 2);
     print_array(b"error at 7 of 10", &out);
+    put_block(&mut out, 7, 0x41, &[3]);
+    print_array(b"a byte at 7 of 10", &out);
     put_empty(&mut out, 9);
     print_array(b"40 00 at 9 of 10", &out);
     put_block(&mut out, 4, 0x42, &[1000, 3000]);
     print_array(b"two words at 4 of 10", &out);
+    put_block(&mut out, 6, 0x41, &[3]);
+    print_array(b"a byte at 6 of 10", &out);
     let mut short = [0xFFu8; 3];
     put_header(&mut short, header(7, 1, 1, 1));
     print_array(b"header in 3", &short);
@@ -431,6 +521,8 @@ fn main() {
     formats();
     wrong_formats();
     counts();
+    fill_sizes();
+    fills();
     response_headers();
     read_answers();
     change_answers();

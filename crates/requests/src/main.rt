@@ -1,4 +1,5 @@
-// Requests worked on one axis's part: the worked examples of document 01, both sides of its limits, and each error in front of the next.
+// Requests worked on one axis's part: the worked examples of document 01, both sides of its limits and of 02's R-2, and each error in front of
+// the next.
 ghost use Prim.Native.Nat.{_≤_};
 use blocks::BlockAt;
 use blocks::Header;
@@ -103,17 +104,19 @@ fn put_address(block: &mut [u8], at: usize, a: Address)
     codes::put_number(block, at + 4, 2, a.subindex as u32);
 }
 
-// The same address n times.
-fn put_addresses(block: &mut [u8], n: u8, a: Address) {
+// The same address n times, from `at` on.
+fn put_addresses(block: &mut [u8], at: usize, n: u8, a: Address)
+    requires { ⌜ at ≤ 240 ⌝ }
+{
     for i in 0..codes::wide(n) {
-        put_address(block, FIRST + i * 6, a);
+        put_address(block, at + i * 6, a);
     }
 }
 
 // A request of n equal addresses.
 fn reads(label: &[u8], part: Part, n: u8, a: Address) -> Part {
     let mut block = headed(1, n);
-    put_addresses(&mut block, n, a);
+    put_addresses(&mut block, FIRST, n, a);
     work(label, part, first(&block, FIRST + codes::wide(n) * 6))
 }
 
@@ -136,7 +139,7 @@ fn change(label: &[u8], part: Part, a: Address, format: u8, values: &[u32]) -> P
 // Three reads of all 947, which leave 38 bytes of the response, and a fourth address.
 fn fourth(label: &[u8], part: Part, a: Address) -> Part {
     let mut block = headed(1, 4);
-    put_addresses(&mut block, 3, value(32, 947, 0));
+    put_addresses(&mut block, FIRST, 3, value(32, 947, 0));
     put_address(&mut block, FIRST + 18, a);
     work(label, part, first(&block, FIRST + 24))
 }
@@ -180,6 +183,25 @@ fn offsets() {
     let part = change(b"offset -100000 by 4", part, a, 4, &[low]);
     let part = change(b"offset -100001 by 4", part, a, 4, &[under]);
     read(b"both offsets", part, value(2, 30004, 0));
+}
+
+// n single elements of 965, which take 4 bytes each with their fill, and three reads of all 947, whose addresses begin at `at`.
+fn filled(label: &[u8], part: Part, n: u8, at: usize) -> Part
+    requires { ⌜ (n ≤ 36) × (at ≤ 222) ⌝ }
+{
+    let mut block = headed(1, n + 3);
+    put_addresses(&mut block, FIRST, n, value(1, 965, 0));
+    put_addresses(&mut block, at, 3, value(32, 947, 0));
+    work(label, part, first(&block, at + 18))
+}
+
+fn fills() {
+    let part = fresh();
+    let part = read(b"965, element 0", part, value(1, 965, 0));
+    let part = read(b"965, element 1", part, value(1, 965, 1));
+    let part = read(b"965, both", part, value(2, 965, 0));
+    let part = filled(b"965 nine times and three reads of all 947", part, 9, 58);
+    filled(b"965 ten times and three reads of all 947", part, 10, 64);
 }
 
 // The most addresses, and the most bytes of a response.
@@ -292,6 +314,7 @@ fn main() {
     limits();
     offsets();
     lengths();
+    fills();
     read_errors();
     change_errors();
     counts();

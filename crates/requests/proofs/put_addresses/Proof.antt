@@ -7,10 +7,10 @@ use Rattle.requests.proofs.put_addresses.Statement.{statement}
 use Rattle.requests.proofs.put_addresses.Tie as tie
 
 abbrev Inv-loop : tie.InvT-loop
-Inv-loop block₀ n a i₀ i-end block i = (length block ≡ length block₀) × (i-end ≤ 255)
+Inv-loop block₀ at n a i₀ i-end block i = (length block ≡ length block₀) × (i-end ≤ 255)
 
 abbrev μ-loop : tie.MeasureT-loop
-μ-loop block₀ n a i₀ i-end block i = i-end - i
+μ-loop block₀ at n a i₀ i-end block i = i-end - i
 
 wide-requires : tie.Need-wide-requires Inv-loop μ-loop
 wide-requires c κs = search needs

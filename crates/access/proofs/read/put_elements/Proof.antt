@@ -4,9 +4,10 @@ use native.Mathlib.Omega.{arith}
 use denote.Ref.{now}
 use lib.ListN.{length}
 use Rattle.blocks.specs.Block.{Block}
+use Rattle.blocks.proofs.Blocks.{values-few}
 use Rattle.access.specs.Walk.{Wrote}
 use Rattle.access.proofs.Gathered.{elements-length}
-use Rattle.access.proofs.Room.{values-few, elements-unfit, elements-written}
+use Rattle.access.proofs.Room.{elements-unfit, elements-written}
 use borrow.Author.Needs.{needs}
 use Rattle.access.proofs.read.put_elements.Statement.{statement}
 use Rattle.access.proofs.read.put_elements.Tie as tie

@@ -1,27 +1,28 @@
--- A count that a byte holds, of values of at most four bytes, is small.
-use Rattle.codes.proofs.Fixed.{small}
-use Rattle.blocks.proofs.Blocks.{values-size}
-use mathlib.Core.Path.{sym, _∙_, ap₂}
-use Prim.Native.Nat.{ℕ, _*_}
+-- The values' own bytes and what fills them up.
+use Rattle.blocks.specs.Block.{valuesSize}
+use Rattle.blocks.proofs.Blocks.{values-size, values-few}
+use mathlib.Core.Path.{_≡_, sym, _∙_, ap₂}
+use Prim.Native.Nat.{ℕ, _+_}
 use native.Mathlib.Omega.{arith}
 use borrow.Author.Needs.{needs}
 use Rattle.blocks.proofs.layout.values_size.Statement.{statement}
 use Rattle.blocks.proofs.layout.values_size.Tie as tie
 
-wide-requires : tie.Need-wide-requires
-wide-requires c κs = search needs
+bare-size-requires : tie.Need-bare-size-requires
+bare-size-requires c κs = search needs
 
-value-size-requires : tie.Need-value-size-requires
-value-size-requires c κs = search needs
+fill-size-requires : tie.Need-fill-size-requires
+fill-size-requires c κs = search needs
 
-mul-result : tie.Need-mul-result
-mul-result c = omega (arith, small (c .before .wide .result) (c .value-size .result) (omega (arith, c .before .wide .ensures)) (c .value-size .ensures .1))
+add-result : tie.Need-add-result
+add-result c = search needs
 
 returns : tie.Need-returns
-returns c = (
-  ap₂ (λ (x y : ℕ). x * y) (c .before .wide .ensures) (c .value-size .ensures .0) ∙ sym (values-size (c .before .before .args .f) (c .before .before .args .n)),
-  small (c .before .wide .result) (c .value-size .result) (omega (arith, c .before .wide .ensures)) (c .value-size .ensures .1),
-)
+returns c =
+    let a = c .before .before .args in
+    let k = c .fill-size in
+    let e : c .before .bare-size .result + k .result ≡ valuesSize (a .f) (a .n) = ap₂ (λ (x y : ℕ). x + y) (c .before .bare-size .ensures .0) (k .ensures .0) ∙ sym (values-size (a .f) (a .n)) in
+    (e, omega (arith, values-few (a .f) (a .n) (omega arith)))
 
 pub values-size-spec : {M : Type 1} → statement M
-values-size-spec = tie.close (tie.spec wide-requires value-size-requires mul-result returns)
+values-size-spec = tie.close (tie.spec bare-size-requires fill-size-requires add-result returns)
