@@ -39,7 +39,7 @@ pub struct Request<'a> {
     pub count: u8,
     /// The addresses, six bytes each.
     pub address_bytes: &'a [u8],
-    /// The value blocks of a change; empty for a request.
+    /// The value blocks of a change with their fill bytes; empty for a request.
     pub value_bytes: &'a [u8],
 }
 
@@ -63,7 +63,7 @@ pub struct Values<'a> {
     pub format: u8,
     /// Number of values.
     pub count: u8,
-    /// The values, `count` times the format's size.
+    /// The values alone, `count` times the format's size; a fill byte is none of them.
     pub bytes: &'a [u8],
 }
 
@@ -179,6 +179,12 @@ pub fn format_size(format: u8) -> Option<usize> {
     }
 }
 
+/// Zero bytes that follow this many bytes of values: R-2 of document 02 keeps every block at even length. Only an odd
+/// number of one-byte values needs one, since values of two or four bytes are even however many.
+pub(crate) fn fill_length(value_bytes: usize) -> usize {
+    value_bytes % 2
+}
+
 /// Reference, identifier, axis, number of parameters and the rest, with what both layouts ask of them.
 fn split_header(block: &[u8]) -> Option<(u8, u8, u8, u8, &[u8])> {
     if block.len() > BLOCK_MAX {
@@ -190,11 +196,13 @@ fn split_header(block: &[u8]) -> Option<(u8, u8, u8, u8, &[u8])> {
     readable.then_some((reference, identifier, axis, count, rest))
 }
 
-/// The first value block of a change and what follows it.
+/// The first value block, in either layout, and what follows it and its fill byte; none where that byte is missing or
+/// not zero.
 fn split_values(bytes: &[u8]) -> Option<(Values<'_>, &[u8])> {
     let (&[format, count], rest) = bytes.split_first_chunk::<2>()?;
     let (bytes, rest) = rest.split_at_checked(usize::from(count) * format_size(format)?)?;
-    Some((Values { format, count, bytes }, rest))
+    let (fill, rest) = rest.split_at_checked(fill_length(bytes.len()))?;
+    fill.iter().all(|byte| *byte == 0).then_some((Values { format, count, bytes }, rest))
 }
 
 /// What follows `count` value blocks.

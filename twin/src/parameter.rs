@@ -1,7 +1,7 @@
 //! The parameters of an axis, and the rules by which one address is read or changed.
 
 use crate::axis::{Axis, CODES, SITUATIONS};
-use crate::block::{Address, Values, SIZE_BYTE, SIZE_DOUBLE, SIZE_WORD};
+use crate::block::{fill_length, Address, Values, SIZE_BYTE, SIZE_DOUBLE, SIZE_WORD};
 
 /// Error words of an address.
 pub mod error {
@@ -230,17 +230,21 @@ fn check_attribute(attribute: u8) -> Result<(), u8> {
     }
 }
 
-/// Writes the value block of an address at the front of `room` and answers its length; 0x15 when it does not fit.
+/// Writes the value block of an address, fill byte included, at the front of `room` and answers its length; 0x15 when
+/// it does not fit.
 pub(crate) fn read(part: &Axis, address: &Address, room: &mut [u8]) -> Result<usize, u8> {
     let Target { parameter, first, elements } = locate(address)?;
     let kind = parameter.kind();
-    let length = 2 + elements * kind.size();
+    let value_bytes = elements * kind.size();
+    let length = 2 + value_bytes + fill_length(value_bytes);
     let block = room.get_mut(..length).ok_or(error::TOO_LONG)?;
     block[0] = kind.size_code();
     block[1] = elements as u8;
-    for (i, bytes) in block[2..].chunks_exact_mut(kind.size()).enumerate() {
+    let (values, fill) = block[2..].split_at_mut(value_bytes);
+    for (i, bytes) in values.chunks_exact_mut(kind.size()).enumerate() {
         kind.encode(parameter.load(part, first + i), bytes);
     }
+    fill.fill(0);
     Ok(length)
 }
 

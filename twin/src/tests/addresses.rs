@@ -1,5 +1,6 @@
-use super::{change, exchange, hex, request};
-use crate::{Axis, Station};
+use super::{change, exchange, hex, request, UNTOUCHED};
+use crate::parameter::{error, read};
+use crate::{Address, Axis, Station};
 
 /// The error of one read address.
 fn read_error(address: &str) -> u8 {
@@ -91,13 +92,14 @@ fn nothing_that_is_not_writable_changes() {
         assert_eq!(change_error(&format!("10 01 {pnu} 00 00"), "42 01 00 00"), (0x01, 0));
     }
     assert_eq!(change_error("10 01 03 B3 00 00", "42 01 00 00"), (0x01, 0));
-    assert_eq!(change_error("10 01 03 C5 00 00", "41 01 03"), (0x01, 0));
+    assert_eq!(change_error("10 01 03 C5 00 00", "41 01 03 00"), (0x01, 0));
 }
 
 #[test]
 fn formats_that_each_type_takes() {
-    for (format, size) in [(0x41, 1), (2, 1), (5, 1), (0x42, 2), (3, 2), (6, 2), (0x43, 4), (4, 4), (7, 4)] {
-        let values = format!("{format:02X} 01 {}", "00".repeat(size));
+    // One value of one byte takes two bytes, the second its fill byte.
+    for (format, length) in [(0x41, 2), (2, 2), (5, 2), (0x42, 2), (3, 2), (6, 2), (0x43, 4), (4, 4), (7, 4)] {
+        let values = format!("{format:02X} 01 {}", "00".repeat(length));
         for (address, accepted) in [("10 01 26 AC 00 00", [0x42, 6]), ("10 01 75 34 00 01", [0x43, 4])] {
             if accepted.contains(&format) {
                 assert_eq!(changed(address, &values).1, 1);
@@ -147,7 +149,7 @@ fn a_failed_change_goes_on() {
         &[
             ("10 01 26 AC 00 00", "42 01 00 05"),
             ("10 04 75 31 00 00", "42 04 00 01 00 02 0B B9 00 04"),
-            ("10 01 00 01 00 00", "41 03 01 02 03"),
+            ("10 01 00 01 00 00", "41 03 01 02 03 00"),
             ("10 02 75 34 00 00", "04 02 00 00 00 01 FF FF FF FF"),
         ],
     );
@@ -172,5 +174,37 @@ fn the_change_with_most_failures() {
 fn reads_with_errors_between_values() {
     let mut station = Station::fresh();
     let block = request(2, 1, &["10 01 03 A2 00 00", "10 01 03 A1 00 00", "10 01 03 C5 00 01"]);
-    assert_eq!(exchange(&mut station, 1, &block).1, hex("02 81 01 03 42 01 00 01 44 01 00 00 41 01 29"));
+    assert_eq!(exchange(&mut station, 1, &block).1, hex("02 81 01 03 42 01 00 01 44 01 00 00 41 01 29 00"));
+}
+
+#[test]
+fn byte_values_are_judged_without_their_fill_byte() {
+    for format in ["41", "02", "05"] {
+        assert_eq!(change_error("10 01 03 C5 00 00", &format!("{format} 01 03 00")), (0x01, 0));
+        assert_eq!(change_error("10 02 03 C5 00 00", &format!("{format} 02 03 29")), (0x01, 0));
+        assert_eq!(change_error("10 03 03 C5 00 00", &format!("{format} 03 03 29 00 00")), (0x03, 0));
+        assert_eq!(change_error("10 01 26 AC 00 00", &format!("{format} 01 05 00")), (0x05, 0), "no word of two bytes");
+        assert_eq!(change_error("10 01 26 AC 00 00", &format!("{format} 02 00 05")), (0x05, 0), "0x05 before 0x18");
+        assert_eq!(change_error("10 03 26 AD 00 00", &format!("{format} 03 01 02 03 00")), (0x05, 0));
+        assert_eq!(change_error("10 01 26 AC 00 00", &format!("{format} 00")), (0x05, 0));
+    }
+}
+
+#[test]
+fn a_value_block_is_written_with_its_fill_byte_or_not_at_all() {
+    let address = |elements: u8, sub_index: u16| Address { attribute: 0x10, elements, pnu: 965, sub_index };
+    let cases = [
+        (address(1, 0), hex("41 01 03 00 A5 A5")),
+        (address(1, 1), hex("41 01 29 00 A5 A5")),
+        (address(2, 0), hex("41 02 03 29 A5 A5")),
+    ];
+    for (address, written) in cases {
+        let mut room = [UNTOUCHED; 6];
+        assert_eq!(read(&Axis::fresh(), &address, &mut room), Ok(4));
+        assert_eq!(room[..], written);
+        assert_eq!(read(&Axis::fresh(), &address, &mut room[..4]), Ok(4), "four bytes are enough");
+        let mut short = [UNTOUCHED; 3];
+        assert_eq!(read(&Axis::fresh(), &address, &mut short), Err(error::TOO_LONG));
+        assert_eq!(short, [UNTOUCHED; 3]);
+    }
 }

@@ -1,4 +1,4 @@
-use super::{cycle, frame, hex, request, worked_journal, worked_write, write_frame, Broken};
+use super::{change, cycle, frame, hex, request, worked_journal, worked_write, write_frame, Broken};
 use crate::replay;
 use std::io::{self, Read};
 
@@ -115,6 +115,30 @@ c 3 S4 0237 -3000
 c 3 S51 0333 0
 c 3 S52 0613 0
 c 3 S1 03D8 0
+";
+    assert_eq!(run(&journal), expected);
+}
+
+#[test]
+fn a_fill_byte_in_a_request_and_in_a_reply() {
+    let fetch = frame(1, &hex("5E 00 2F F0"));
+    let sent = |values: &str| frame(1, &write_frame(&change(1, 1, &[("10 01 03 C5 00 00", values)])));
+    let journal = [
+        frame(1, &write_frame(&request(1, 1, &["10 01 03 C5 00 00"]))),
+        fetch.clone(),
+        sent("41 01 03 00"),
+        fetch,
+        sent("41 01 03"),
+        sent("41 01 03 01"),
+    ]
+    .concat();
+    let expected = "\
+f 1 0 5F002F0A
+f 1 0 5E002F080101010141010300
+f 1 0 5F002F0E
+f 1 0 5E002F080182010144010001
+f 1 0 DF80B800
+f 1 0 DF80B800
 ";
     assert_eq!(run(&journal), expected);
 }

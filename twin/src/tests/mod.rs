@@ -1,4 +1,4 @@
-//! Worked cases of document 01, of R-1 of document 02 and of the readings.
+//! Worked cases of document 01, of of document 02 and of the readings.
 
 mod addresses;
 mod blocks;
@@ -13,7 +13,7 @@ use crate::{Framed, Station};
 use std::io::{self, Read};
 
 /// A reply memory that shows which bytes were touched.
-pub const FILL: u8 = 0xA5;
+pub const UNTOUCHED: u8 = 0xA5;
 
 /// Bytes from hex text, spaces ignored.
 pub fn hex(text: &str) -> Vec<u8> {
@@ -46,10 +46,10 @@ pub fn change(reference: u8, axis: u8, parameters: &[(&str, &str)]) -> Vec<u8> {
 
 /// Runs a frame, checks that nothing past the reply is touched, and gives the reply.
 pub fn send(station: &mut Station, farm: u32, frame: &[u8]) -> (Framed, Vec<u8>) {
-    let mut memory = [FILL; 260];
+    let mut memory = [UNTOUCHED; 260];
     let framed = station.frame(farm, frame, &mut memory);
     let (reply, rest) = memory.split_at(framed.length.into());
-    assert!(rest.iter().all(|byte| *byte == FILL));
+    assert!(rest.iter().all(|byte| *byte == UNTOUCHED));
     (framed, reply.to_vec())
 }
 

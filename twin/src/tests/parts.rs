@@ -96,6 +96,30 @@ fn waiting_responses() {
 }
 
 #[test]
+fn fill_bytes_of_waiting_responses() {
+    assert!(after(|part| part.waiting = waiting("07 01 01 01 41 01 03 00")));
+    assert!(after(|part| part.waiting = waiting("07 01 01 01 41 02 03 29")));
+    assert!(
+        after(|part| part.waiting = waiting("07 01 01 02 41 03 01 02 03 00 42 01 00 01")),
+        "not ours, but readable"
+    );
+    let unreadable = [
+        ("07 01 01 01 41 01 03", "the zero after it is outside the block"),
+        ("07 01 01 01 41 01 03 01", "another byte"),
+        ("07 01 01 01 41 01 03 00 00", "a second one"),
+        ("07 01 01 01 41 02 03 29 00", "one after an even count"),
+        ("07 01 01 02 41 01 03 42 01 00 01", "none in the middle"),
+        ("07 01 01 02 41 01 03 FF 42 01 00 01", "another byte in the middle"),
+        ("07 81 01 02 41 01 03 44 01 00 02", "none before an error block"),
+        ("07 82 01 02 40 00 00 44 01 00 02", "one after 40 00"),
+        ("07 82 01 02 44 01 00 02 00 40 00", "one after an error block"),
+    ];
+    for (block, why) in unreadable {
+        assert!(!after(|part| part.waiting = waiting(block)), "{why}");
+    }
+}
+
+#[test]
 fn state_codes() {
     assert_eq!(State::ALL.map(State::code), [1, 2, 3, 4, 51, 52]);
     assert!(State::ALL.iter().all(|state| State::from_code(state.code()) == Some(*state)));

@@ -1,11 +1,11 @@
-//! Random runs: the station stays well-formed, refusals change nothing, other parts are untouched; the season report is
-//! what the replay's lines tell.
+//! Random runs: the station stays well-formed, refusals change nothing, other parts are untouched, accepted blocks are of
+//! even length; the season report is what the replay's lines tell.
 
-use super::{cycle, frame, FILL};
+use super::{cycle, frame, UNTOUCHED};
 use crate::record::FRAME_MAX;
 use crate::{
-    parse_request, parse_response, replay, report, well_formed, Counts, ResponseKind, State, Station, Totals, AXES,
-    COUNTS,
+    parse_request, parse_response, replay, report, well_formed, Counts, Item, ResponseKind, State, Station, Totals,
+    Values, AXES, COUNTS,
 };
 
 /// A small generator of its own (xorshift64*).
@@ -47,12 +47,16 @@ fn random_block(random: &mut Random, axis: u8) -> Vec<u8> {
         block.extend([0, random.pick(&[0, 0, 0, 1, 2, 31])]);
     }
     for _ in 0..if change { count } else { 0 } {
-        let (format, size) = random.pick(&[(0x41, 1), (0x42, 2), (6, 2), (0x43, 4), (4, 4)]);
-        let values = random.pick(&[0, 1, 1, 1, 2, 4]);
+        let byte = random.pick(&[0x41, 2, 5]);
+        let (format, size) = random.pick(&[(byte, 1), (0x42, 2), (6, 2), (0x43, 4), (4, 4)]);
+        let values = random.pick(&[0, 1, 1, 1, 2, 3, 4]);
         block.extend([format, values]);
         for _ in 0..values {
             let value = random.pick(&[0, 1, 3000, 3001, 16384, 60000, 65535, 100_000, 100_001, u32::MAX]);
             block.extend(&value.to_be_bytes()[4 - size..]);
+        }
+        if size == 1 && values % 2 == 1 && !random.one_in(50) {
+            block.push(if random.one_in(50) { random.next() as u8 } else { 0 });
         }
     }
     block
@@ -73,20 +77,25 @@ fn random_frame(random: &mut Random, axis: u8) -> Vec<u8> {
     frame
 }
 
+fn odd_bytes(values: &Values) -> bool {
+    values.bytes.len() % 2 == 1
+}
+
 #[test]
 fn random_frames() {
     let mut random = Random(0x1234_5678_9ABC_DEF1);
     let mut station = Station::fresh();
     let mut seen = [0u32; 13];
+    let [mut filled_requests, mut filled_responses] = [0u32; 2];
     for _ in 0..60_000 {
         let farm = 1 + random.below(16) as u32;
         let index = farm as usize - 1;
         let frame = random_frame(&mut random, farm as u8);
         let before = station.clone();
-        let mut reply = [FILL; 250];
+        let mut reply = [UNTOUCHED; 250];
         let framed = station.frame(farm, &frame, &mut reply);
         seen[usize::from(framed.number)] += 1;
-        assert!(reply[framed.length.into()..].iter().all(|byte| *byte == FILL));
+        assert!(reply[framed.length.into()..].iter().all(|byte| *byte == UNTOUCHED));
         assert!(well_formed(&station.axes[index], farm as u8));
         assert!((0..16).all(|other| other == index || station.axes[other] == before.axes[other]));
         if framed.number != 0 {
@@ -99,8 +108,13 @@ fn random_frames() {
             assert_eq!((request.reference, request.count), (response.reference, response.count));
             let items = if response.kind == ResponseKind::Changed { 0 } else { usize::from(request.count) };
             assert_eq!(response.items().count(), items);
+            assert_eq!((frame.len() % 2, waiting.length % 2), (0, 0), "fill bytes keep both at even length");
+            filled_requests += u32::from(request.values().any(|values| odd_bytes(&values)));
+            filled_responses +=
+                u32::from(response.items().any(|item| matches!(item, Item::Values(values) if odd_bytes(&values))));
         }
     }
+    assert!(filled_requests > 100 && filled_responses > 100, "{filled_requests} {filled_responses}");
     assert!([0, 7, 8, 9, 10, 11].iter().all(|number| seen[*number] > 20), "{seen:?}");
 }
 
@@ -179,7 +193,7 @@ fn told(lines: &str) -> Totals {
 #[test]
 fn random_seasons() {
     let mut random = Random(0x5EA5_0217_CA11_ED17);
-    let journal: Vec<u8> = (0..30_000).flat_map(|_| random_record(&mut random)).collect();
+    let journal: Vec<u8> = (0..90_000).flat_map(|_| random_record(&mut random)).collect();
     let (mut lines, mut season) = (Vec::new(), Vec::new());
     replay(&journal[..], &mut lines).unwrap();
     report(&journal[..], &mut season).unwrap();
