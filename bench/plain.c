@@ -1,5 +1,5 @@
-/* The station of document 01 in plain C, on the same memory as the library: a yardstick for `./llinkhiro bench`, not a product.
- * The face is that of llinkhiro.h under other names, so that one program can hold both. */
+/* The station of document 01, with R-2 of 02, in plain C on the same memory as the library: a yardstick for `./llinkhiro bench`,
+ * not a product. The face is that of llinkhiro.h under other names, so that one program can hold both. */
 #include "llinkhiro.h"
 
 #include <stdbool.h>
@@ -44,6 +44,18 @@ static void put_word(uint8_t b[2], unsigned n)
 static bool zero(const uint8_t *b, size_t len)
 {
     return memcmp(b, zeros, len) == 0;
+}
+
+/* Bytes of values with the fill byte after an odd number of them; values of two or four bytes are never odd. */
+static size_t filled(size_t bytes)
+{
+    return bytes + bytes % 2;
+}
+
+/* Whether what is left begins with so many bytes of values and their fill byte, which is 0. */
+static bool values_readable(const uint8_t *values, size_t bytes, size_t left)
+{
+    return filled(bytes) <= left && (filled(bytes) == bytes || values[bytes] == 0);
 }
 
 /* ---- Parameters ---------------------------------------------------------------------------------------------- */
@@ -99,7 +111,7 @@ static bool situation_formed(const uint8_t codes[CODES][2])
     return zero(codes[0] + 2 * used, 2 * (CODES - used));
 }
 
-/* The bytes of the next block of a response of this kind, after its format and count; -1 where none may stand so. */
+/* The bytes of values in the next block of a response of this kind, by its format and count; -1 where none may stand so. */
 static int item_bytes(unsigned kind, unsigned format, unsigned count)
 {
     switch (format) {
@@ -133,10 +145,10 @@ static bool response_readable(const uint8_t *block, size_t len)
         if (len - at < 2)
             return false;
         int bytes = item_bytes(kind, block[at], block[at + 1]);
-        if (bytes < 0 || len - at - 2 < (size_t)bytes)
+        if (bytes < 0 || !values_readable(block + at + 2, (size_t)bytes, len - at - 2))
             return false;
         failed |= block[at] == ERROR;
-        at += 2 + (size_t)bytes;
+        at += 2 + filled((size_t)bytes);
     }
     return at == len && (kind == REQUEST || failed);
 }
@@ -327,7 +339,10 @@ static bool request_readable(const uint8_t *block, size_t len)
     for (unsigned left = block[1] == CHANGE ? block[3] : 0; left > 0; left--) {
         if (at + 2 > len || format_size(block[at]) == 0)
             return false;
-        at += 2 + format_size(block[at]) * block[at + 1];
+        size_t bytes = format_size(block[at]) * block[at + 1];
+        if (!values_readable(block + at + 2, bytes, len - at - 2))
+            return false;
+        at += 2 + filled(bytes);
     }
     return at == len;
 }
@@ -394,7 +409,7 @@ static uint8_t *add_error(struct part *part, uint8_t *to, int error)
     return to + 4;
 }
 
-/* Writes the blocks of the response to a request from `to` on; their end. */
+/* Writes the blocks of the response to a request from `to` on; their end. All is 0 there before, so fill bytes need no write. */
 static uint8_t *read_all(struct part *part, const uint8_t *block, uint8_t *to)
 {
     const uint8_t *address = block + HEADER;
@@ -404,7 +419,7 @@ static uint8_t *read_all(struct part *part, const uint8_t *block, uint8_t *to)
         int error = locate(address, &from);
         size_t bytes = error < 0 ? from.elements * from.parameter->size : 0;
 
-        if (error < 0 && (size_t)(to - part->response) + 2 + bytes > BLOCK - 4 * (left - 1))
+        if (error < 0 && (size_t)(to - part->response) + 2 + filled(bytes) > BLOCK - 4 * (left - 1))
             error = 0x15;
         if (error >= 0) {
             to = add_error(part, to, error);
@@ -413,7 +428,7 @@ static uint8_t *read_all(struct part *part, const uint8_t *block, uint8_t *to)
         *to++ = from.parameter->size_code;
         *to++ = (uint8_t)from.elements;
         memcpy(to, (uint8_t *)part + from.at, bytes);
-        to += bytes;
+        to += filled(bytes);
     }
     return to;
 }
@@ -427,7 +442,7 @@ static uint8_t *change_all(struct part *part, const uint8_t *block, uint8_t *to,
     for (unsigned left = block[3]; left > 0; left--, address += ADDRESS) {
         int error = change(part, address, values, stored);
 
-        values += 2 + format_size(values[0]) * values[1];
+        values += 2 + filled(format_size(values[0]) * values[1]);
         if (error >= 0) {
             to = add_error(part, to, error);
             continue;
