@@ -1,6 +1,6 @@
 //! Frames: readable blocks of every kind, the reads that fetch the answers, and damage of every sort.
 
-use crate::layout::{Block, Values, ADDRESS};
+use crate::layout::{Block, Values, ADDRESS, BYTE_FORMATS, HEADER};
 use crate::random::Random;
 use twin::{Address, Parameter, Type, BLOCK_MAX};
 
@@ -16,8 +16,6 @@ pub enum Kind {
     /// Any bytes.
     Free,
 }
-
-const HEADER: usize = 4;
 
 /// The parameters, the writable ones last.
 const KNOWN: [u16; 15] =
@@ -55,7 +53,25 @@ fn read(random: &mut Random, waiting: usize) -> Vec<u8> {
 fn write(random: &mut Random, axis: u8) -> (Kind, Vec<u8>) {
     let axis = if random.one_in(30) { random.pick(&[0, 1, 2, 16, 17, axis ^ 1, axis + 16, 255]) } else { axis };
     let (kind, block) = block(random, axis);
-    (kind, framed(&block.bytes()))
+    let bytes = if random.one_in(4) { misfilled(random, &block) } else { block.bytes() };
+    (kind, framed(&bytes))
+}
+
+/// The bytes of a block in which a fill byte is not zero, missing, or one too many; a block without byte values as it is.
+pub fn misfilled(random: &mut Random, block: &Block) -> Vec<u8> {
+    let mut bytes = block.bytes();
+    let byte_blocks = block.byte_blocks();
+    if byte_blocks.is_empty() {
+        return bytes;
+    }
+    let chosen = random.pick(&byte_blocks);
+    let other = 1 + random.below(255) as u8;
+    match random.below(3) {
+        0 if chosen.is_filled() => bytes[chosen.end - 1] = random.pick(&[1, 0x42, 0x80, other]),
+        1 if chosen.is_filled() => drop(bytes.remove(chosen.end - 1)),
+        _ => bytes.insert(chosen.end, 0),
+    }
+    bytes
 }
 
 /// A request or a change of this axis, mostly readable.
@@ -94,12 +110,13 @@ fn parameters(random: &mut Random) -> usize {
 
 fn request(random: &mut Random, axis: u8) -> Block {
     let count = parameters(random);
-    let long = random.one_in(3);
+    // Answers that are long, and those that have many fill bytes beside a long one.
+    let often: &[u16] = random.pick(&[&[947, 947, 9901, 965], &[947, 965, 965, 965], &KNOWN, &KNOWN, &KNOWN]);
     let right = random.one_in(2);
     let mut block = empty(reference(random), 0x01, axis);
     for _ in 0..count {
-        let pnu =
-            if long && !random.one_in(6) { random.pick(&[947, 947, 9901, 965]) } else { pnu(random, &KNOWN, right) };
+        let known = if random.one_in(6) { &KNOWN } else { often };
+        let pnu = pnu(random, known, right);
         block.addresses.push(address(random, pnu, right));
     }
     Block { count: count as u8, ..block }
@@ -131,12 +148,13 @@ fn change(random: &mut Random, axis: u8) -> Block {
     Block { reference: reference(random), count: block.addresses.len() as u8, ..block }
 }
 
-/// One more address, whose values end near the last byte of a block.
+/// One more address, whose values end near the last byte of a block. Where they are bytes, a fill byte may follow.
 fn fill_up(random: &mut Random, block: &mut Block) {
-    let end: usize = random.pick(&[238, 239, 240, 240, 241]);
+    let end: usize = random.pick(&[238, 239, 239, 240, 240, 241]);
     let Some(room) = end.checked_sub(block.length() + ADDRESS + 2) else { return };
     block.addresses.push(address(random, 9901, false));
-    let (format, size) = if room % 2 == 0 { (0x42, 2) } else { (0x41, 1) };
+    let format = random.pick(&[0x42, 0x41, 2, 5]);
+    let size = if BYTE_FORMATS.contains(&format) { 1 } else { 2 };
     block.values.push(any_values(random, format, size, room / size));
 }
 
@@ -211,6 +229,7 @@ fn value_block(random: &mut Random, pnu: u16, elements: u8, right: bool) -> Valu
         _ if right => random.pick(&[kind.size_code(), kind.type_code()]),
         0 => random.pick(&[0, 1, 8, 9, 0x40, 0x44, 0x45, 0xFF, any]),
         1..=6 => random.pick(&FORMATS),
+        7..=9 => random.pick(&BYTE_FORMATS),
         _ => random.pick(&[kind.size_code(), kind.type_code()]),
     };
     let wanted = usize::from(elements.max(1)).min(40);
@@ -283,5 +302,27 @@ fn damage_bytes(random: &mut Random, frame: &mut Vec<u8>) {
             frame[3] = random.pick(&[frame[3].wrapping_add(1), frame[3].wrapping_sub(1), 0, 240, 241, 255])
         }
         _ => frame.push(random.byte()),
+    }
+}
+
+#[cfg(test)]
+mod tests {
+    use super::*;
+
+    #[test]
+    fn a_misfilled_block_is_unreadable() {
+        let mut random = Random::new(3);
+        let mut tried = 0;
+        while tried < 500 {
+            let block = change(&mut random, 1);
+            let readable = Block::of_request(&block.bytes()).is_some();
+            if readable && block.byte_blocks().is_empty() {
+                assert_eq!(misfilled(&mut random, &block), block.bytes());
+            } else if readable {
+                tried += 1;
+                let bytes = misfilled(&mut random, &block);
+                assert_eq!(Block::of_request(&bytes), None, "{bytes:02X?}");
+            }
+        }
     }
 }

@@ -2,9 +2,12 @@
 
 use twin::{Address, Item, Request, RequestKind, Response, ResponseKind};
 
-const HEADER: usize = 4;
+/// Bytes of the header.
+pub const HEADER: usize = 4;
 /// Bytes of an address.
 pub const ADDRESS: usize = 6;
+/// Formats of one byte. A fill byte, one zero that the count leaves out, follows an odd number of their values.
+pub const BYTE_FORMATS: [u8; 3] = [0x41, 2, 5];
 
 /// A block of either kind. Nothing keeps it readable, since tests want others too.
 #[derive(Clone, Debug, PartialEq, Eq)]
@@ -34,6 +37,24 @@ pub struct Values {
     pub values: Vec<u32>,
 }
 
+/// Where a value block of a byte format stands in a block.
+#[derive(Clone, Copy, Debug, PartialEq, Eq)]
+pub struct ByteBlock {
+    /// Its format.
+    pub format: u8,
+    /// Number of its values.
+    pub count: usize,
+    /// Where it ends, a fill byte included.
+    pub end: usize,
+}
+
+impl ByteBlock {
+    /// Whether its last byte is a fill byte.
+    pub fn is_filled(&self) -> bool {
+        self.count % 2 == 1
+    }
+}
+
 impl Values {
     /// An error block.
     pub fn error(number: u16) -> Values {
@@ -45,16 +66,30 @@ impl Values {
         Values { format: 0x40, size: 1, values: Vec::new() }
     }
 
-    /// Bytes of the block.
-    pub fn length(&self) -> usize {
-        2 + self.size * self.values.len()
+    fn is_of_bytes(&self) -> bool {
+        self.size == 1 && BYTE_FORMATS.contains(&self.format)
     }
 
-    fn write(&self, bytes: &mut Vec<u8>) {
-        bytes.extend([self.format, self.values.len() as u8]);
+    /// Whether a fill byte follows the values.
+    pub fn is_filled(&self) -> bool {
+        self.is_of_bytes() && self.values.len() % 2 == 1
+    }
+
+    /// Bytes of the block.
+    pub fn length(&self) -> usize {
+        2 + self.size * self.values.len() + usize::from(self.is_filled())
+    }
+
+    /// The bytes, high byte first.
+    pub fn bytes(&self) -> Vec<u8> {
+        let mut bytes = vec![self.format, self.values.len() as u8];
         for value in &self.values {
             bytes.extend(&value.to_be_bytes()[4 - self.size..]);
         }
+        if self.is_filled() {
+            bytes.push(0);
+        }
+        bytes
     }
 
     fn read(values: &twin::Values) -> Values {
@@ -78,20 +113,35 @@ impl Block {
             bytes.extend(address.pnu.to_be_bytes());
             bytes.extend(address.sub_index.to_be_bytes());
         }
-        self.values.iter().for_each(|values| values.write(&mut bytes));
+        bytes.extend(self.values.iter().flat_map(Values::bytes));
         bytes
+    }
+
+    /// The value blocks of byte formats, in their order.
+    pub fn byte_blocks(&self) -> Vec<ByteBlock> {
+        let mut end = HEADER + ADDRESS * self.addresses.len();
+        let mut blocks = Vec::new();
+        for values in &self.values {
+            end += values.length();
+            if values.is_of_bytes() {
+                blocks.push(ByteBlock { format: values.format, count: values.values.len(), end });
+            }
+        }
+        blocks
     }
 
     /// What the twin reads in a request block; none where it is unreadable.
     pub fn of_request(block: &[u8]) -> Option<Block> {
         let request: Request = twin::parse_request(block)?;
+        // As many as there are, so that the twin is not asked for one more.
+        let value_blocks = if request.kind == RequestKind::Change { request.count } else { 0 };
         Some(Block {
             reference: request.reference,
             identifier: if request.kind == RequestKind::Request { 0x01 } else { 0x02 },
             axis: request.axis,
             count: request.count,
             addresses: request.addresses().collect(),
-            values: request.values().map(|values| Values::read(&values)).collect(),
+            values: request.values().take(value_blocks.into()).map(|values| Values::read(&values)).collect(),
         })
     }
 
@@ -146,5 +196,24 @@ mod tests {
         assert_eq!((block.bytes(), block.length()), (bytes.to_vec(), bytes.len()));
         assert_eq!(Block::of_response(&bytes), Some(block));
         assert_eq!(Block::of_response(&bytes[..13]), None);
+    }
+
+    #[test]
+    fn a_fill_byte_follows_an_odd_number_of_bytes() {
+        let address = Address { attribute: 0x10, elements: 1, pnu: 965, sub_index: 0 };
+        let values = |format, size, values: &[u32]| Values { format, size, values: values.to_vec() };
+        for format in BYTE_FORMATS {
+            let values = vec![values(format, 1, &[3]), values(format, 1, &[3, 41]), values(format, 1, &[])];
+            let addresses = vec![address; 3];
+            let block = Block { reference: 1, identifier: 2, axis: 1, count: 3, addresses, values };
+            let bytes = block.bytes();
+            assert_eq!(bytes[22..], [format, 1, 3, 0, format, 2, 3, 41, format, 0]);
+            assert_eq!((block.length(), Block::of_request(&bytes)), (bytes.len(), Some(block.clone())));
+            let ends: Vec<_> = block.byte_blocks().iter().map(|bytes| (bytes.end, bytes.is_filled())).collect();
+            assert_eq!(ends, [(26, true), (30, false), (32, false)]);
+        }
+        for (format, size, bytes) in [(0x42, 2, 4), (0x43, 4, 6), (0x44, 1, 3), (0x40, 1, 3), (8, 1, 3)] {
+            assert_eq!(values(format, size, &[7]).length(), bytes, "format {format:02X} has no fill byte");
+        }
     }
 }

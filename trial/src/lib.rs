@@ -11,6 +11,7 @@ pub mod blocks;
 pub mod cases;
 pub mod dissected;
 pub mod face;
+pub mod fills;
 pub mod journal;
 pub mod layout;
 pub mod meaning;

@@ -1,6 +1,6 @@
 //! Parts of the station's memory that no run of calls need have left: at their limits, over them, and with any response.
 
-use crate::blocks::any_values;
+use crate::blocks::{any_values, misfilled};
 use crate::layout::{Block, Values};
 use crate::meaning::{encode, place, Field, PART};
 use crate::random::Random;
@@ -117,7 +117,8 @@ fn odd(random: &mut Random, axis: u8) -> Block {
 /// A response that waits: readable and of this axis but for now and then.
 fn waiting(random: &mut Random, axis: u8) -> Waiting {
     let odd_one = random.one_in(4);
-    let mut block = if odd_one { odd(random, axis).bytes() } else { response(random, axis).bytes() };
+    let block = if odd_one { odd(random, axis) } else { response(random, axis) };
+    let mut block = if random.one_in(4) { misfilled(random, &block) } else { block.bytes() };
     if random.one_in(if odd_one { 50 } else { 4 }) {
         damage(random, &mut block);
     }
@@ -134,7 +135,7 @@ fn waiting(random: &mut Random, axis: u8) -> Waiting {
     Waiting { bytes, length }
 }
 
-/// Every layout of a response block that document 01 has, of any length that fits.
+/// Every layout of a response block that documents 01 and 02 have, of any length that fits.
 pub fn response(random: &mut Random, axis: u8) -> Block {
     let identifier = random.pick(&[0x01, 0x01, 0x02, 0x81, 0x81, 0x82]);
     let wish = random.pick(&[1, 1, 2, 5, 20, 38, 39]);

@@ -1,6 +1,7 @@
 //! What a run of calls has reached.
 
 use crate::blocks::Kind;
+use crate::fills::Fills;
 use crate::words::Inputs;
 use std::collections::BTreeMap;
 use std::fmt::{self, Display, Formatter};
@@ -79,6 +80,8 @@ pub struct Tally {
     elements_stored: u64,
     responses: Counts,
     errors: Counts,
+    /// What was met of fill bytes.
+    pub fills: Fills,
 }
 
 impl Tally {
@@ -160,6 +163,7 @@ impl Tally {
         EVENTS.iter().zip(self.events).for_each(|(name, times)| want(times, name.to_string()));
         SETTINGS.iter().for_each(|(s, name)| want(self.settings[*s as usize], format!("memory {name}")));
         want(self.changes_stored, "a stored element".into());
+        missing.extend(self.fills.missing());
         missing
     }
 }
@@ -190,7 +194,8 @@ impl Display for Tally {
             f,
             "stored     {} changes stored at least one element, {} elements",
             self.changes_stored, self.elements_stored
-        )
+        )?;
+        write!(f, "{}", self.fills)
     }
 }
 

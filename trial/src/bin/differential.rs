@@ -238,6 +238,7 @@ impl Trial {
     }
 
     fn count(&mut self, call: &Call, answer: &Answer, setting: Setting, kind: Kind, before: Option<twin::Axis>) {
+        self.count_fills(call, answer, before.as_ref());
         let tally = &mut self.tally;
         tally.setting(setting);
         match (call, answer) {
@@ -255,6 +256,20 @@ impl Trial {
                 }
             }
             _ => tally.fresh(),
+        }
+    }
+
+    fn count_fills(&mut self, call: &Call, answer: &Answer, before: Option<&twin::Axis>) {
+        let fills = &mut self.tally.fills;
+        let (Some(owner), Some(before)) = (call.owner(), before) else { return };
+        let after = self.pair.axis(owner);
+        let waiting = |axis: &twin::Axis| axis.waiting.as_ref().map_or(Vec::new(), |it| it.bytes[..it.length].to_vec());
+        match (answer.number(), call) {
+            (2, _) => fills.ill_formed(before, owner as u8 + 1),
+            (10, Call::Frame(_, frame, _)) => fills.refused(&frame[4..]),
+            (0, Call::Frame(_, frame, _)) if frame[0] == 0x5E => fills.fetched(&waiting(before)),
+            (0, Call::Frame(_, frame, _)) => fills.worked(&frame[4..], &waiting(after)),
+            _ => {}
         }
     }
 

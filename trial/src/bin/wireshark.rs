@@ -14,7 +14,8 @@
 //! Of each packet these are compared, in their order, and nothing else may stand between them: both checksums and
 //! addresses, both sequence numbers, operation, status, block type, slot, subslot, index, record length, elements stored,
 //! and every PROFIdrive field: reference, identifier, axis, number of parameters; each attribute, number of elements, PNU
-//! and sub-index; each format, number of values and value; each error number. Wireshark may find no fault with the packet.
+//! and sub-index; each format, number of values and value; each error number. Wireshark may find no fault with the packet
+//! but those named below.
 //!
 //! Not compared:
 //!
@@ -22,13 +23,20 @@
 //! - the names that Wireshark gives to numbers: some are its own (error 15 is "Response timeout", where the profile has a
 //!   response that is too long; error 0F is "The text array does not save right", where there is no text);
 //! - what follows an error 23 in a response: to Wireshark it ends the block, and what follows is a "Long frame". Only
-//!   made-up responses have it, the library does not send it; that Wireshark stops there is compared;
+//!   made-up responses have it, the library does not send it; that Wireshark stops there is compared, and the bytes that
+//!   it leaves over;
+//! - what follows a fill byte in the middle of a block. Wireshark (4.0 and 4.4) knows no fill byte and takes it for the next
+//!   value block: the zero for its format, the format that follows for its number of values, and of each of these it says
+//!   that format 0 is invalid. So far it is compared; then Wireshark goes on from a wrong place;
+//! - a fill byte at the end of a request: Wireshark passes over it, whatever it is, as over the bytes by which PROFINET
+//!   makes a write divisible by four. At the end of a response it is a "Long frame", and is compared: one byte, a zero;
 //! - of a block that is not readable, and of a frame whose length byte is wrong: all but the packet's header, since
 //!   Wireshark stops somewhere in it and nothing was meant;
 //! - frames of a farm over 255, which only a caller in C can send: a capture has no place for its number.
 //!
 //! That a mistake would be seen is tried at the end: every byte of some blocks is altered, one in each packet, and each
-//! must be told from what was meant.
+//! must be told from what was meant. Of blocks with a fill byte only what Wireshark shows is altered: that byte too where it
+//! is a format to it or left over, but not at the end of a request, and nothing that follows it and the next format.
 
 #![forbid(unsafe_code)]
 #![deny(warnings)]
@@ -38,9 +46,9 @@ use std::io::BufWriter;
 use std::path::{Path, PathBuf};
 use std::process::ExitCode;
 use trial::cases::{logical_lines, read_bytes, read_cases, Line, Step};
-use trial::dissected::{self, fields_of_request, fields_of_response, Field, FAULT, PROFIDRIVE};
+use trial::dissected::{self, fields_of_request, seen_in_request, seen_in_response, Field, FAULT, PROFIDRIVE};
 use trial::journal::{self, Next, Record};
-use trial::layout::{Block, Values};
+use trial::layout::{Block, Values, BYTE_FORMATS};
 use trial::packets::{Capture, Exchange};
 use trial::random::Random;
 use trial::{blocks, parts, words};
@@ -50,7 +58,7 @@ const SEED: u64 = 11;
 const MADE_UP: usize = 1500;
 /// Differences that are printed.
 const PRINTED: usize = 20;
-/// A test of fewer request or response blocks than these says too little.
+/// A test of fewer request or response blocks, each read to its end, says too little.
 const LEAST: usize = 1000;
 
 fn main() -> ExitCode {
@@ -91,8 +99,18 @@ fn run(folder: &Path, journal: &str, journals: &str, examples: &[String]) -> Res
 struct Meant {
     what: String,
     fields: Vec<Field>,
-    /// Whether what follows the header was meant too.
-    whole: bool,
+    until: Until,
+}
+
+/// How far a packet is compared.
+#[derive(Clone, Copy, PartialEq, Eq)]
+enum Until {
+    /// To its end.
+    End,
+    /// To a fill byte in the middle of its block.
+    Fill,
+    /// To its block, which was not meant.
+    Header,
 }
 
 /// What an answer was meant to be.
@@ -176,11 +194,11 @@ impl Bench {
         self.records += 1;
         let exchange = Exchange { record: self.records, ..exchange };
         self.capture.add(&exchange).map_err(|error| error.to_string())?;
-        self.requests += usize::from(block.is_some());
-        self.responses += usize::from(answer.block.is_some());
         let what = format!("{what}, farm {}", exchange.farm);
-        self.meant.push(request_meant(&what, &exchange, block));
-        self.meant.push(response_meant(&what, &exchange, answer));
+        let (request, response) = (request_meant(&what, &exchange, block), response_meant(&what, &exchange, answer));
+        self.requests += usize::from(block.is_some() && request.until == Until::End);
+        self.responses += usize::from(answer.block.is_some() && response.until == Until::End);
+        self.meant.extend([request, response]);
         Ok(())
     }
 
@@ -283,10 +301,13 @@ impl Bench {
         Ok(())
     }
 
-    /// Every format, attribute and number of parameters, and every byte where a byte may be any.
+    /// Every format, attribute and number of parameters, every byte where a byte may be any, and fill bytes.
     fn every_request(&mut self) -> Result<(), String> {
-        for block in changes_of_every_format() {
-            self.request("a change of every format", block.axis, &block)?;
+        for block in each_format_alone().iter().chain(&all_formats_in_one()).chain(&filled_changes()) {
+            self.request("a change of every format", block.axis, block)?;
+        }
+        for block in reads_of_single_bytes() {
+            self.request("single elements of 965", block.axis, &block)?;
         }
         for byte in 0..=255 {
             let block = any_byte(byte);
@@ -324,9 +345,9 @@ impl Bench {
         let errors = errors.map(|number| response(0x81, vec![any_value(), Values::error(number)]));
         let failed = (0..=0x30).map(|number| response(0x82, vec![Values::zero(), Values::error(number)]));
         let changed = (1..=39).map(|count| Block { count, ..response(0x02, Vec::new()) });
-        let mut blocks: Vec<Block> = errors.chain(failed).chain(changed).collect();
-        blocks.extend((0..MADE_UP).map(|at| parts::response(&mut random, (at % 256) as u8)));
-        for block in blocks {
+        let made_up: Vec<Block> = (0..MADE_UP).map(|at| parts::response(&mut random, (at % 256) as u8)).collect();
+        let evened: Vec<Block> = made_up.iter().filter_map(evened).collect();
+        for block in errors.chain(failed).chain(changed).chain(made_up).chain(evened) {
             let (exchange, answer) = fetched(&block, &block.bytes());
             self.add("a made-up response", exchange, None, &answer)?;
         }
@@ -348,7 +369,8 @@ impl Bench {
         let (requests, responses, left_out) = (self.requests, self.responses, self.left_out);
         let compared = self.differences()?;
         let fields: usize = compared.iter().map(|(meant, _)| meant.fields.len()).sum();
-        let headers = compared.iter().filter(|(meant, _)| !meant.whole).count();
+        let count = |until: Until| compared.iter().filter(|(meant, _)| meant.until == until).count();
+        let (headers, fills) = (count(Until::Header), count(Until::Fill));
         let mut found = 0;
         for (number, (meant, differences)) in compared.iter().enumerate() {
             for difference in differences {
@@ -358,9 +380,10 @@ impl Bench {
                 }
             }
         }
-        println!("{left_out} frames of farms over 255 left out; {headers} packets compared by their header alone");
+        println!("{left_out} frames of farms over 255 left out");
+        println!("{headers} packets compared by their header alone, {fills} up to a fill byte");
         println!(
-            "{} packets with {requests} request and {responses} response blocks: {fields} fields compared, {found} differences",
+            "{} packets, {requests} requests and {responses} responses to their end: {fields} fields compared, {found} differences",
             compared.len(),
         );
         if requests.min(responses) < LEAST {
@@ -370,12 +393,12 @@ impl Bench {
     }
 }
 
-/// One byte of a block altered in each packet: whether all were found.
+/// One byte of a block altered in each packet, where Wireshark shows it: whether all were found.
 fn planted(path: PathBuf) -> Result<bool, String> {
     let mut bench = Bench::new(path)?;
-    for block in changes_of_every_format().iter().rev().take(3) {
+    for block in all_formats_in_one().iter().rev().take(3).chain(&filled_changes()) {
         let bytes = block.bytes();
-        for at in 0..bytes.len() {
+        for at in 0..seen_in_request(block).bytes {
             let frame = blocks::framed(&altered(&bytes, at));
             let reply = vec![0x5F, 0, 47, bytes.len() as u8];
             let answer = Answer::of(0, 0, &reply);
@@ -383,16 +406,9 @@ fn planted(path: PathBuf) -> Result<bool, String> {
             bench.add(&format!("byte {at} altered"), exchange, Some(block), &answer)?;
         }
     }
-    let failed = vec![any_value(), Values::error(0x16)];
-    let every_size = [(0x41, 1), (0x42, 2), (0x43, 4)].map(|(format, size)| values(format, size, 3));
-    for block in [
-        response(0x01, every_size.to_vec()),
-        response(0x02, Vec::new()),
-        response(0x81, failed),
-        response(0x82, vec![Values::zero(), Values::error(0x02)]),
-    ] {
+    for block in responses_of_every_kind() {
         let bytes = block.bytes();
-        for at in 0..bytes.len() {
+        for at in 0..seen_in_response(&block).bytes {
             let (exchange, answer) = fetched(&block, &altered(&bytes, at));
             bench.add(&format!("byte {at} altered"), exchange, None, &answer)?;
         }
@@ -454,18 +470,63 @@ fn any_value() -> Values {
     values(0x43, 4, 1)
 }
 
-/// Each format alone, with no value and with some; then all in one block, each of them first once.
-fn changes_of_every_format() -> Vec<Block> {
-    let formats = [(0x41, 1), (2, 1), (5, 1), (0x42, 2), (3, 2), (6, 2), (0x43, 4), (4, 4), (7, 4)];
+const FORMATS: [(u8, usize); 9] = [(0x41, 1), (2, 1), (5, 1), (0x42, 2), (3, 2), (6, 2), (0x43, 4), (4, 4), (7, 4)];
+
+/// Each format with no value and with some.
+fn each_format_alone() -> Vec<Block> {
+    let counts = [0, 1, 2, 3, 4, 54, 55];
+    FORMATS.iter().flat_map(|(format, size)| counts.map(|count| change(vec![values(*format, *size, count)]))).collect()
+}
+
+/// All formats in one block, each of them first once. Bytes are even in number, so that Wireshark reads all.
+fn all_formats_in_one() -> Vec<Block> {
+    let block = |first: usize| {
+        let order = FORMATS.iter().cycle().skip(first).take(FORMATS.len()).zip(0..);
+        let count = |size: usize, at: u32| if size == 1 { at % 4 / 2 * 2 } else { at % 4 };
+        change(order.map(|((format, size), at)| values(*format, *size, count(*size, at))).collect())
+    };
+    (0..FORMATS.len()).map(block).collect()
+}
+
+/// An odd number of bytes behind a word, and before every format.
+fn filled_changes() -> Vec<Block> {
     let mut blocks = Vec::new();
-    for (format, size) in formats {
-        blocks.extend([0, 1, 2, 3, 4, 55].map(|count| change(vec![values(format, size, count)])));
-    }
-    for first in 0..formats.len() {
-        let order = formats.iter().cycle().skip(first).take(formats.len()).enumerate();
-        blocks.push(change(order.map(|(at, (format, size))| values(*format, *size, at as u32 % 4)).collect()));
+    for format in BYTE_FORMATS {
+        blocks.push(change(vec![values(0x42, 2, 1), values(format, 1, 3)]));
+        blocks.extend(FORMATS.map(|(next, size)| change(vec![values(format, 1, 1), values(next, size, 2)])));
     }
     blocks
+}
+
+/// Reads that are answered with a fill byte at the end, before another block, and both.
+fn reads_of_single_bytes() -> Vec<Block> {
+    let byte = Address { pnu: 965, sub_index: 1, ..address(0x10, 1) };
+    let word = Address { pnu: 930, ..address(0x10, 1) };
+    let addresses = [vec![byte], vec![word, byte], vec![byte, word], vec![byte, word, byte]];
+    let read = |addresses: Vec<Address>| Block { count: addresses.len() as u8, addresses, ..change(Vec::new()) };
+    addresses.map(|addresses| Block { identifier: 0x01, ..read(addresses) }).into()
+}
+
+/// A response of each identifier, and those of values with a fill byte nowhere, at the end and before another block.
+fn responses_of_every_kind() -> Vec<Block> {
+    let (words, doubles) = (values(0x42, 2, 3), values(0x43, 4, 3));
+    vec![
+        response(0x01, vec![values(0x41, 1, 2), words.clone(), doubles.clone()]),
+        response(0x01, vec![words.clone(), doubles, values(0x41, 1, 3)]),
+        response(0x01, vec![values(0x41, 1, 3), words]),
+        response(0x02, Vec::new()),
+        response(0x81, vec![any_value(), Values::error(0x16)]),
+        response(0x82, vec![Values::zero(), Values::error(0x02)]),
+    ]
+}
+
+/// A block that has fill bytes, with one more value in the place of each, so that Wireshark reads all of it.
+fn evened(block: &Block) -> Option<Block> {
+    let mut block = block.clone();
+    let mut filled = block.values.iter_mut().filter(|values| values.is_filled()).peekable();
+    filled.peek()?;
+    filled.for_each(|values| values.values.push(0xA5));
+    Some(block)
 }
 
 /// A request in which every field that is a byte has another one for each byte.
@@ -525,8 +586,12 @@ fn request_meant(what: &str, exchange: &Exchange, block: Option<&Block>) -> Mean
         frame => (frame.len(), true),
     };
     let mut fields = header_meant(exchange, true, &[], length as u32, &[]);
-    fields.extend(block.map(fields_of_request).unwrap_or_default());
-    Meant { what: format!("{what}, request"), fields, whole: meant }
+    let mut until = if meant { Until::End } else { Until::Header };
+    if let Some(seen) = block.map(seen_in_request) {
+        fields.extend(seen.fields);
+        until = if seen.lost { Until::Fill } else { until };
+    }
+    Meant { what: format!("{what}, request"), fields, until }
 }
 
 fn response_meant(what: &str, exchange: &Exchange, answer: &Answer) -> Meant {
@@ -537,15 +602,21 @@ fn response_meant(what: &str, exchange: &Exchange, answer: &Answer) -> Meant {
     if !reads {
         fields.extend(status);
     }
-    fields.extend(answer.block.as_ref().map(fields_of_response).unwrap_or_default());
-    Meant { what: format!("{what}, response"), fields, whole: true }
+    let mut until = Until::End;
+    if let Some(seen) = answer.block.as_ref().map(seen_in_response) {
+        fields.extend(seen.fields);
+        until = if seen.lost { Until::Fill } else { until };
+    }
+    Meant { what: format!("{what}, response"), fields, until }
 }
 
 /// Each field that was read otherwise than it was meant.
 fn compare(meant: Meant, mut read: Vec<Field>) -> (Meant, Vec<String>) {
-    if !meant.whole {
+    if meant.until == Until::Header {
         read.retain(|(name, _)| !name.starts_with(PROFIDRIVE) && *name != FAULT);
-        // Bytes behind a read are to Wireshark one more block header.
+    }
+    if meant.until != Until::End {
+        // What Wireshark reads from a wrong place; and bytes behind a read, which are to it one more block header.
         read.truncate(meant.fields.len());
     }
     let mut differences = Vec::new();
