@@ -1,4 +1,4 @@
-/* A test of the station's C face against document 01. Every expected byte was worked out from 01 by hand.
+/* A test of the station's C face against documents 01 and 02. Every expected byte was worked out from them by hand.
  *
  * Each call is made on memories of its own with guard bytes of a known pattern on both sides, and everything is checked
  * after it: the answer, the reply, the reply memory past it, the frame, the station and all guards. A refused call must
@@ -928,15 +928,92 @@ static void thirty_nine(void)
     send("10: 40 parameters in 240 bytes", (struct sending){ 1, request, 0, REPLY, 10, 0, hex("DF 80 B8 00") });
 }
 
-/* The largest readable write: 228 byte values for 9901, which wants words. */
+/* The largest readable writes: 228 byte values for 9901, which wants words, or 227 and their fill byte. */
 static void full_write(void)
 {
-    struct bytes request = hex("5F 00 2F F0  0C 02 01 01  10 08 26 AD 00 00  41 E4");
+    static const char response[] = "5E 00 2F 08  0C 82 01 01  44 01 00 05";
+    struct bytes even = hex("5F 00 2F F0  0C 02 01 01  10 08 26 AD 00 00  41 E4"), odd = even;
 
-    add_times(&request, 228, "AA");
+    add_times(&even, 228, "AA");
+    odd.at[15] = 227;
+    add_times(&odd, 227, "AA");
+    add(&odd, "00");
     fresh_station();
-    send("a block of 240 bytes", (struct sending){ 1, request, 0, REPLY, 0, 0, hex("5F 00 2F F0") });
-    frame("a block of 240 bytes fetched", 1, fetch, 0, 0, "5E 00 2F 08  0C 82 01 01  44 01 00 05");
+    send("a block of 240 bytes", (struct sending){ 1, even, 0, REPLY, 0, 0, hex("5F 00 2F F0") });
+    frame("a block of 240 bytes fetched", 1, fetch, 0, 0, response);
+    send("240 bytes with a fill byte", (struct sending){ 1, odd, 0, REPLY, 0, 0, hex("5F 00 2F F0") });
+    frame("240 bytes with a fill byte fetched", 1, fetch, 0, 0, response);
+    odd.at[243] = 0xAA;
+    send("10: 240 bytes, fill byte AA", (struct sending){ 1, odd, 0, REPLY, 10, 0, hex("DF 80 B8 00") });
+    odd.at[3] = 239;
+    odd.len--;
+    send("10: 239 bytes, no fill byte", (struct sending){ 1, odd, 0, REPLY, 10, 0, hex("DF 80 B8 00") });
+    frame("8: none was worked", 1, fetch, 8, 0, "DE 80 B5 00");
+}
+
+/* A change of 9900, which wants a word, by byte values (number, values, what follows), and of a mark behind them. Where
+ * it is readable the mark is stored. */
+static void fill_byte(uint8_t format, const char *values, uint8_t number)
+{
+    struct bytes change = hex("5F 00 2F 00  0D 02 01 02  10 01 26 AC 00 00  10 01 75 31 00 00");
+
+    change.at[change.len++] = format;
+    add(&change, values);
+    add(&change, "42 01 03 E8");
+    change.at[3] = (uint8_t)(change.len - 4);
+    struct bytes reply = number == 0 ? change : refusal_reply(number, true);
+    reply.len = 4; /* an acknowledgement is as the frame begins */
+    send(named("format %02X, values %s", (unsigned)format, values),
+         (struct sending){ 1, change, 0, REPLY, number, number == 0, reply });
+    if (number == 0)
+        frame("the mark behind byte values", 1, fetch, 0, 0, "5E 00 2F 0A  0D 82 01 02  44 01 00 05  40 00");
+}
+
+/* Number 10 by fill bytes: behind an odd number of bytes stands one zero, behind an even number none. */
+static void fill_bytes_written(void)
+{
+    static const uint8_t formats[] = { 0x41, 2, 5 };
+
+    fresh_station();
+    for (size_t i = 0; i < sizeof formats; i++) {
+        fill_byte(formats[i], "01 05 00", 0);
+        fill_byte(formats[i], "03 05 06 07 00", 0);
+        fill_byte(formats[i], "02 05 06", 0);
+        fill_byte(formats[i], "00", 0);
+        fill_byte(formats[i], "01 05 01", 10);
+        fill_byte(formats[i], "01 05 FF", 10);
+        fill_byte(formats[i], "03 05 06 07 80", 10);
+        fill_byte(formats[i], "01 05", 10);
+        fill_byte(formats[i], "01 05 00 00", 10);
+        fill_byte(formats[i], "02 05 06 00", 10);
+        fill_byte(formats[i], "00 00", 10);
+    }
+}
+
+/* Elements of 965 as they are read. Ten single ones and three whole 947 are 242 bytes, so the last gets 0x15; without
+ * fill bytes they would fit. The block is 180 bytes. */
+static void fill_bytes_read(void)
+{
+    struct bytes request = hex("5F 00 2F 52  07 01 01 0D"), response = hex("5E 00 2F B4  07 81 01 0D");
+
+    fresh_station();
+    frame("one element of 965", 1, "5F 00 2F 0A  07 01 01 01  10 01 03 C5 00 00", 0, 0, "5F 00 2F 0A");
+    frame("9: 965 without its fill byte", 1, "5E 00 2F 07", 9, 0, "DE 80 B7 00");
+    frame("one element of 965 fetched", 1, "5E 00 2F 08", 0, 0, "5E 00 2F 08  07 01 01 01  41 01 03 00");
+    frame("965 among others", 1, "5F 00 2F 16  07 01 01 03  10 01 03 C5 00 01  10 02 03 C5 00 00  10 01 03 A2 00 00",
+          0, 0, "5F 00 2F 16");
+    frame("965 among others fetched", 1, fetch, 0, 0,
+          "5E 00 2F 10  07 01 01 03  41 01 29 00  41 02 03 29  42 01 00 01");
+    add_times(&request, 10, "10 01 03 C5 00 00");
+    add_times(&response, 10, "41 01 03 00");
+    add_times(&request, 3, "10 20 03 B3 00 00");
+    for (unsigned i = 0; i < 2; i++) {
+        add(&response, "42 20");
+        add_times(&response, 32, "00 00");
+    }
+    add(&response, "44 01 00 15");
+    send("ten of 965 and three 947", (struct sending){ 1, request, 0, REPLY, 0, 0, hex("5F 00 2F 52") });
+    send("ten of 965 and three 947 fetched", (struct sending){ 1, hex(fetch), 0, REPLY, 0, 0, response });
 }
 
 /* Every error word of the address rules, beside addresses that work. */
@@ -950,9 +1027,9 @@ static void addresses(void)
           "5E 00 2F 24  0A 81 01 08  44 01 00 00  44 01 00 09  44 01 00 0F  44 01 00 16 "
           "44 01 00 04  44 01 00 16  44 01 00 03  42 01 00 01");
     frame("change errors", 1,
-          "5F 00 2F 4D  0B 02 01 07  10 01 03 A2 00 00  10 01 26 AC 00 00  10 02 26 AD 00 00  10 01 75 32 00 00 "
-          "10 00 75 33 00 00  10 01 75 34 00 01  10 01 75 34 00 00  42 01 00 01  41 01 05  42 01 00 07  42 01 40 01 "
-          "06 01 7F FF  04 01 FF FE 79 60  43 01 FF FE 79 5F", 0, 2, "5F 00 2F 4D");
+          "5F 00 2F 4E  0B 02 01 07  10 01 03 A2 00 00  10 01 26 AC 00 00  10 02 26 AD 00 00  10 01 75 32 00 00 "
+          "10 00 75 33 00 00  10 01 75 34 00 01  10 01 75 34 00 00  42 01 00 01  41 01 05 00  42 01 00 07 "
+          "42 01 40 01  06 01 7F FF  04 01 FF FE 79 60  43 01 FF FE 79 5F", 0, 2, "5F 00 2F 4E");
     frame("change errors fetched", 1, fetch, 0, 0,
           "5E 00 2F 1C  0B 82 01 07  44 01 00 01  44 01 00 05  44 01 00 18  44 01 00 02  40 00  40 00  44 01 00 02");
     frame("read what was stored", 1,
@@ -1059,6 +1136,8 @@ static void placed(enum placing here)
     full_reply();
     thirty_nine();
     full_write();
+    fill_bytes_written();
+    fill_bytes_read();
     addresses();
     cycles();
     faults();
@@ -1132,6 +1211,8 @@ static const struct group {
     { "response of 240 bytes", full_reply },
     { "39 parameters", thirty_nine },
     { "block of 240 bytes", full_write },
+    { "fill bytes written", fill_bytes_written },
+    { "fill bytes read", fill_bytes_read },
     { "address rules", addresses },
     { "cycles", cycles },
     { "faults", faults },
