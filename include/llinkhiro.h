@@ -109,6 +109,7 @@ struct llinkhiro_framed {
  * write (4 bytes), and the response then waits in the station.
  * A read, 5E 00 2F and the most bytes wanted: the reply is 5E 00 2F, the length of the waiting response, and the response
  * (8 to 244 bytes in all). The response waits no more.
+ * In the blocks of both, an odd number of byte values is followed by one zero byte, which their count leaves out.
  * Refused by 1 to 4: the reply is empty (length 0), and the reply memory is not touched.
  * Refused by 5 to 11: the reply is DE (to a read) or DF (to a write), 80, the code in the table above, 00 (4 bytes).
  *

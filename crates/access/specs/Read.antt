@@ -1,4 +1,4 @@
--- Document 01, "Parameters of each axis": a request (01) worked on a part, and the rule of 0x15.
+-- Document 01, "Parameters of each axis", with 02's R-2: a request (01) worked on a part, and the rule of 0x15.
 use mathlib.Core.Bool.{cond}
 use mathlib.Core.List.{List, [], _∷_}
 use Prim.Native.Nat.{ℕ, zero, suc, _+_, _*_}
@@ -17,7 +17,7 @@ abbrev pub elementsFrom : Row → ℕ → ℕ → List ℕ → List ℕ
 elementsFrom r i zero p = []
 elementsFrom r i (suc n) p = elementOf r i p ∷ elementsFrom r (i + 1) n p
 
--- the bytes of a block
+-- the bytes of a block; R-2: "the length and the 0x15 rule count" the one that fills it
 abbrev pub blockSize : Block → ℕ
 blockSize b = 2 + valuesSize (b .format) (length (b .values))
 

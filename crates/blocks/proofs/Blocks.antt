@@ -1,5 +1,5 @@
 -- Where a block of values stands, ends and holds its values.
-use mathlib.Core.Path.{_≡_, refl, sym, _∙_, ap, ap₂}
+use mathlib.Core.Path.{_≡_, refl, sym, _∙_, ap}
 use mathlib.Core.List.{List, _∷_, _++_, append-nil, append-assoc}
 use mathlib.Core.Bool.{Bool, true, false, true≢false, cond, _||_}
 use Prim.Native.Nat.{ℕ, zero, suc, _+_, _-_, _*_, _%_, _≤_, _<_}
@@ -13,7 +13,7 @@ use borrow.Author.Tests.{eqb-true, eqb-false}
 use Rattle.codes.specs.Code.{Got, got, bad, readTimes, AllOf, writeAll, fill, word}
 use Rattle.codes.specs.Number.{numberAt}
 use Rattle.codes.proofs.Sound.{word-sound}
-use Rattle.codes.proofs.Fixed.{Bytes, byte-at, byte-end, Fixed, fixed-word, fixed-times, fill-zero, fill-other, small}
+use Rattle.codes.proofs.Fixed.{Bytes, byte-at, byte-end, fixed-word, fixed-times, fill-zero, fill-other, small}
 use Rattle.codes.proofs.Items.{all-length, item-at, tail-stands, first-read}
 use Rattle.codes.proofs.Number.{number-is}
 use Rattle.codes.proofs.Put.{word-length, fill-bytes}
@@ -63,7 +63,15 @@ pub values-size : (f n : ℕ) → valuesSize f n ≡ n * valueSize f + fillSize 
 unfolding valuesSize
 values-size f n = values-length f n (replicate n 0) (length-replicate n 0)
 
--- 1020 is even: filled up, no more values than a byte counts take more
+-- the sizes that the code has: w bytes of values, and k that fill them
+module _ (f n w k : ℕ) (ew : w ≡ n * valueSize f) (ek : k ≡ w % 2) where
+  pub filled-by : k ≡ fillSize f n
+  filled-by = ek ∙ (ap (λ (x : ℕ). x % 2) ew ∙ sym (fill-even f n))
+
+  pub filled-size : w + k ≡ valuesSize f n
+  filled-size = rw (ew, filled-by) (sym (values-size f n))
+
+-- as many values as a byte counts take at most 1020 bytes, filled up too, since that is even
 pub values-few : (f n : ℕ) → n < 256 → valuesSize f n ≤ 1020
 values-few f n h = omega (arith, values-size f n, fill-even f n, small n (valueSize f) h (size-small f))
 
@@ -88,10 +96,6 @@ module _ (f n : ℕ) (s : List ℕ) (b : Bytes s) (at : ℕ) (h : at + valuesSiz
 
   abbrev filled : Bool
   filled = eqb (fillSize f n) 0 || eqb (getD s place 0) 0
-
-  -- which the code tests by the sizes that it has
-  tested : (k z : ℕ) → k ≡ fillSize f n → z ≡ valuesSize f n → filled ≡ eqb k 0 || eqb (getD s (at + z - k) 0) 0
-  tested k z ek ez = ap₂ (λ (x y : ℕ). eqb x 0 || eqb (getD s y 0) 0) (sym ek) (omega (arith, values-size f n))
 
   bare : (vs : List ℕ) × (readTimes (word (valueSize f) .read) n (drop at s) ≡ got vs (drop place s))
   bare = fixed-times (word (valueSize f)) (valueSize f) (fixed-word (valueSize f)) n .enough s b at (omega (arith, values-size f n))
@@ -144,31 +148,36 @@ module _ (fits : ℕ → ℕ → Bool) (s : List ℕ) (b : Bytes s) (at : ℕ) w
       two : at + 1 + 1 ≡ at + 2
       two = omega arith
 
-      pub block-short : length s < at + 2 + valuesSize f n → Nothing ≡ blockBy fits s at
-      unfolding block
-      block-short l =
-          nothing (rw (byte-at s b at (omega arith), byte-at s b (at + 1) (omega arith), e, two, values-short f n (drop (at + 2) s) (omega (arith, length-drop (at + 2) s))))
+      -- by the sizes that the code has
+      module _ (w k : ℕ) (ew : w ≡ n * valueSize f) (ek : k ≡ w % 2) where
+        sizes : w + k ≡ valuesSize f n
+        sizes = filled-size f n w k ew ek
 
-      -- with room for the values, by the sizes and the test that the code has
-      module _ (k z : ℕ) (ek : k ≡ fillSize f n) (ez : z ≡ valuesSize f n) (l : at + 2 + z ≤ length s) (r : Bool) (er : r ≡ eqb k 0 || eqb (getD s (at + 2 + z - k) 0) 0) where
-        room : at + 2 + valuesSize f n ≤ length s
-        room = omega (arith, ez)
-
-        test : filled f n s b (at + 2) room ≡ r
-        test = tested f n s b (at + 2) room k z ek ez ∙ sym er
-
-        pub block-unfilled : r ≡ false → Nothing ≡ blockBy fits s at
+        pub block-short : length s < at + 2 + (w + k) → Nothing ≡ blockBy fits s at
         unfolding block
-        block-unfilled t =
-            nothing (rw (byte-at s b at (omega arith), byte-at s b (at + 1) (omega arith), e, two, values-unfilled f n s b (at + 2) room (test ∙ t)))
+        block-short l =
+            nothing (rw (byte-at s b at (omega arith), byte-at s b (at + 1) (omega arith), e, two, values-short f n (drop (at + 2) s) (omega (arith, sizes, length-drop (at + 2) s))))
 
-        pub block-long : r ≡ true → Stands (record { format = f; count = n; next = at + 2 + z }) ≡ blockBy fits s at
-        unfolding block
-        block-long t =
-            let v = values-filled f n s b (at + 2) room (test ∙ t) in
-            let c = values-count f n (v .0) (values-sound f n .only (drop (at + 2) s) (v .0) _ (v .1) .0) in
-            let k : length s - length (drop (at + 2 + valuesSize f n) s) ≡ at + 2 + valuesSize f n = omega (arith, length-drop (at + 2 + valuesSize f n) s) in
-            rw (byte-at s b at (omega arith), byte-at s b (at + 1) (omega arith), e, two, v .1, c, k, ez)
+        -- and by its test
+        module _ (l : at + 2 + (w + k) ≤ length s) (r : Bool) (er : r ≡ eqb k 0 || eqb (getD s (at + 2 + w) 0) 0) where
+          room : at + 2 + valuesSize f n ≤ length s
+          room = omega (arith, sizes)
+
+          test : filled f n s b (at + 2) room ≡ r
+          test = rw (← filled-by f n w k ew ek, ← ew) (sym er)
+
+          pub block-unfilled : r ≡ false → Nothing ≡ blockBy fits s at
+          unfolding block
+          block-unfilled t =
+              nothing (rw (byte-at s b at (omega arith), byte-at s b (at + 1) (omega arith), e, two, values-unfilled f n s b (at + 2) room (test ∙ t)))
+
+          pub block-long : r ≡ true → Stands (record { format = f; count = n; next = at + 2 + w + k }) ≡ blockBy fits s at
+          unfolding block
+          block-long t =
+              let v = values-filled f n s b (at + 2) room (test ∙ t) in
+              let c = values-count f n (v .0) (values-sound f n .only (drop (at + 2) s) (v .0) _ (v .1) .0) in
+              let z : length s - length (drop (at + 2 + valuesSize f n) s) ≡ at + 2 + w + k = omega (arith, sizes, length-drop (at + 2 + valuesSize f n) s) in
+              rw (byte-at s b at (omega arith), byte-at s b (at + 1) (omega arith), e, two, v .1, c, z)
 
 -- a block that stands, as the layout reads it
 pub record Stood (fits : ℕ → ℕ → Bool) (s : List ℕ) (at : ℕ) (h : Head) : Type 0 where

@@ -1,7 +1,7 @@
 // Formats, their sizes, and which blocks may stand where.
 ghost use mathlib.Core.Path.{_≡_};
-ghost use Prim.Native.Nat.{_*_, _≤_};
-ghost use Rattle.blocks.specs.Block.{formatSize, valueSize, valueFits, errorFits, emptyFits, responseBlockFits, fillSize, valuesSize};
+ghost use Prim.Native.Nat.{_*_, _%_, _≤_};
+ghost use Rattle.blocks.specs.Block.{formatSize, valueSize, valueFits, errorFits, emptyFits, responseBlockFits, valuesSize};
 ghost use Rattle.blocks.specs.Request.{requestBlocks};
 ghost use Rattle.blocks.specs.Response.{responseBlocks, isAnswer};
 ghost use Rattle.blocks.specs.Walk.{ruleOf};
@@ -30,25 +30,27 @@ pub fn value_size(f: u8) -> usize
     if f == 0x44 { 2 } else { format_size(f) }
 }
 
-// Bytes of n values of the format f, without the one that may fill them up.
-fn bare_size(f: u8, n: u8) -> usize
-    ensures { λ r. ⌜ (r ≡ n * valueSize f) × (r ≤ 1020) ⌝ }
+// Bytes of n values of `size` bytes each, without the one that may fill them up.
+pub fn bare_size(n: u8, size: usize) -> usize
+    requires { ⌜ size ≤ 4 ⌝ }
+    ensures { λ r. ⌜ (r ≡ n * size) × (r ≤ 1020) ⌝ }
 {
-    codes::wide(n) * value_size(f)
+    codes::wide(n) * size
 }
 
-// Bytes that fill n values of the format f up to an even number.
-pub fn fill_size(f: u8, n: u8) -> usize
-    ensures { λ r. ⌜ (r ≡ fillSize f n) × (r ≤ 1) ⌝ }
+// How many bytes fill so many bytes of values: one makes an odd number even.
+pub fn fill_of(bare: usize) -> usize
+    ensures { λ r. ⌜ r ≡ bare % 2 ⌝ }
 {
-    bare_size(f, n) % 2
+    bare % 2
 }
 
 // Bytes of n values of the format f, filled up.
 pub fn values_size(f: u8, n: u8) -> usize
     ensures { λ r. ⌜ (r ≡ valuesSize f n) × (r ≤ 1020) ⌝ }
 {
-    bare_size(f, n) + fill_size(f, n)
+    let bare = bare_size(n, value_size(f));
+    bare + fill_of(bare)
 }
 
 fn value_fits(f: u8, n: u8) -> bool

@@ -85,19 +85,19 @@ fn block_by(s: &[u8], at: usize, these: Blocks) -> BlockAt
     if !layout::block_fits(these, f, n) {
         return BlockAt::Nothing;
     }
-    let bytes = layout::values_size(f, n);
-    if s.len() - 2 - at < bytes {
+    let bare = layout::bare_size(n, layout::value_size(f));
+    let fill = layout::fill_of(bare);
+    if s.len() - 2 - at < bare + fill {
         return BlockAt::Nothing;
     }
-    let next = at + 2 + bytes;
-    let fill = layout::fill_size(f, n);
-    if !is_filled(s, next - fill, fill) {
+    let end = at + 2 + bare;
+    if !is_filled(s, end, fill) {
         return BlockAt::Nothing;
     }
     let h = Head {
         format: f,
         count: n,
-        next,
+        next: end + fill,
     };
     BlockAt::Stands(h)
 }

@@ -59,18 +59,19 @@ pub fn put_block(out: &mut [u8], at: usize, f: u8, values: &[u32])
         return;
     }
     let n = values.len() as u8;
-    let bytes = block_size(f, n);
-    if out.len() < bytes {
+    let size = super::layout::value_size(f);
+    let bare = super::layout::bare_size(n, size);
+    let fill = super::layout::fill_of(bare);
+    if out.len() < 2 + bare + fill {
         return;
     }
-    if out.len() - bytes < at {
+    if out.len() - (2 + bare + fill) < at {
         return;
     }
     out[at] = f;
     out[at + 1] = n;
-    put_values(out, at + 2, super::layout::value_size(f), values);
-    let fill = super::layout::fill_size(f, n);
-    put_fill(out, at + bytes - fill, fill);
+    put_values(out, at + 2, size, values);
+    put_fill(out, at + 2 + bare, fill);
 }
 
 // `40 00`: a parameter of a change that did not fail.
