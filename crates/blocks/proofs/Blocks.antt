@@ -63,14 +63,6 @@ pub values-size : (f n : ℕ) → valuesSize f n ≡ n * valueSize f + fillSize 
 unfolding valuesSize
 values-size f n = values-length f n (replicate n 0) (length-replicate n 0)
 
--- the sizes that the code has: w bytes of values, and k that fill them
-module _ (f n w k : ℕ) (ew : w ≡ n * valueSize f) (ek : k ≡ w % 2) where
-  pub filled-by : k ≡ fillSize f n
-  filled-by = ek ∙ (ap (λ (x : ℕ). x % 2) ew ∙ sym (fill-even f n))
-
-  pub filled-size : w + k ≡ valuesSize f n
-  filled-size = rw (ew, filled-by) (sym (values-size f n))
-
 -- as many values as a byte counts take at most 1020 bytes, filled up too, since that is even
 pub values-few : (f n : ℕ) → n < 256 → valuesSize f n ≤ 1020
 values-few f n h = omega (arith, values-size f n, fill-even f n, small n (valueSize f) h (size-small f))
@@ -94,30 +86,30 @@ module _ (f n : ℕ) (s : List ℕ) (b : Bytes s) (at : ℕ) (h : at + valuesSiz
   abbrev place : ℕ
   place = at + n * valueSize f
 
-  abbrev filled : Bool
+  abbrev pub filled : Bool
   filled = eqb (fillSize f n) 0 || eqb (getD s place 0) 0
 
-  bare : (vs : List ℕ) × (readTimes (word (valueSize f) .read) n (drop at s) ≡ got vs (drop place s))
-  bare = fixed-times (word (valueSize f)) (valueSize f) (fixed-word (valueSize f)) n .enough s b at (omega (arith, values-size f n))
+  values-bare : (vs : List ℕ) × (readTimes (word (valueSize f) .read) n (drop at s) ≡ got vs (drop place s))
+  values-bare = fixed-times (word (valueSize f)) (valueSize f) (fixed-word (valueSize f)) n .enough s b at (omega (arith, values-size f n))
 
   values-filled : filled ≡ true → (vs : List ℕ) × (valuesOf f n .read (drop at s) ≡ got vs (drop (at + valuesSize f n) s))
   unfolding valuesOf
-  values-filled t = (bare .0, rw (bare .1) (go (fillSize f n) refl))
+  values-filled t = (values-bare .0, rw (values-bare .1) (go (fillSize f n) refl))
     where
-      go : (k : ℕ) → fillSize f n ≡ k → fill k (bare .0) .read (drop place s) ≡ got (bare .0) (drop (at + valuesSize f n) s)
+      go : (k : ℕ) → fillSize f n ≡ k → fill k (values-bare .0) .read (drop place s) ≡ got (values-bare .0) (drop (at + valuesSize f n) s)
       go zero e = let z : place ≡ at + valuesSize f n = omega (arith, values-size f n) in rw z
       go (suc zero) e =
           let z : place + 1 ≡ at + valuesSize f n = omega (arith, values-size f n) in
-          fill-zero (bare .0) 0 s b place (omega arith) (eqb-true _ 0 (rw e at t)) ∙ rw z
+          fill-zero (values-bare .0) 0 s b place (omega arith) (eqb-true _ 0 (rw e at t)) ∙ rw z
       go (suc (suc k)) e = absurd (omega (arith, fill-small f n))
 
   values-unfilled : filled ≡ false → valuesOf f n .read (drop at s) ≡ bad
   unfolding valuesOf
-  values-unfilled t = rw (bare .1) (go (fillSize f n) refl)
+  values-unfilled t = rw (values-bare .1) (go (fillSize f n) refl)
     where
-      go : (k : ℕ) → fillSize f n ≡ k → fill k (bare .0) .read (drop place s) ≡ bad
+      go : (k : ℕ) → fillSize f n ≡ k → fill k (values-bare .0) .read (drop place s) ≡ bad
       go zero e = absurd (true≢false (rw e at t))
-      go (suc zero) e = fill-other (bare .0) 0 s b place (omega (arith, values-size f n)) (eqb-false _ 0 (rw e at t))
+      go (suc zero) e = fill-other (values-bare .0) 0 s b place (omega (arith, values-size f n)) (eqb-false _ 0 (rw e at t))
       go (suc (suc k)) e = absurd (omega (arith, fill-small f n))
 
 -- The block at a place: two bytes, the format and the count, and then the values.
@@ -148,36 +140,27 @@ module _ (fits : ℕ → ℕ → Bool) (s : List ℕ) (b : Bytes s) (at : ℕ) w
       two : at + 1 + 1 ≡ at + 2
       two = omega arith
 
-      -- by the sizes that the code has
-      module _ (w k : ℕ) (ew : w ≡ n * valueSize f) (ek : k ≡ w % 2) where
-        sizes : w + k ≡ valuesSize f n
-        sizes = filled-size f n w k ew ek
+      unread : valuesOf f n .read (drop (at + 2) s) ≡ bad → Nothing ≡ blockBy fits s at
+      unfolding block
+      unread v = nothing (rw (byte-at s b at (omega arith), byte-at s b (at + 1) (omega arith), e, two, v))
 
-        pub block-short : length s < at + 2 + (w + k) → Nothing ≡ blockBy fits s at
+      pub block-short : length s < at + 2 + (n * valueSize f + fillSize f n) → Nothing ≡ blockBy fits s at
+      block-short l = unread (values-short f n (drop (at + 2) s) (omega (arith, values-size f n, length-drop (at + 2) s)))
+
+      module _ (l : at + 2 + (n * valueSize f + fillSize f n) ≤ length s) where
+        pub room : at + 2 + valuesSize f n ≤ length s
+        room = omega (arith, values-size f n)
+
+        pub block-unfilled : filled f n s b (at + 2) room ≡ false → Nothing ≡ blockBy fits s at
+        block-unfilled t = unread (values-unfilled f n s b (at + 2) room t)
+
+        pub block-long : filled f n s b (at + 2) room ≡ true → Stands (record { format = f; count = n; next = at + 2 + n * valueSize f + fillSize f n }) ≡ blockBy fits s at
         unfolding block
-        block-short l =
-            nothing (rw (byte-at s b at (omega arith), byte-at s b (at + 1) (omega arith), e, two, values-short f n (drop (at + 2) s) (omega (arith, sizes, length-drop (at + 2) s))))
-
-        -- and by its test
-        module _ (l : at + 2 + (w + k) ≤ length s) (r : Bool) (er : r ≡ eqb k 0 || eqb (getD s (at + 2 + w) 0) 0) where
-          room : at + 2 + valuesSize f n ≤ length s
-          room = omega (arith, sizes)
-
-          test : filled f n s b (at + 2) room ≡ r
-          test = rw (← filled-by f n w k ew ek, ← ew) (sym er)
-
-          pub block-unfilled : r ≡ false → Nothing ≡ blockBy fits s at
-          unfolding block
-          block-unfilled t =
-              nothing (rw (byte-at s b at (omega arith), byte-at s b (at + 1) (omega arith), e, two, values-unfilled f n s b (at + 2) room (test ∙ t)))
-
-          pub block-long : r ≡ true → Stands (record { format = f; count = n; next = at + 2 + w + k }) ≡ blockBy fits s at
-          unfolding block
-          block-long t =
-              let v = values-filled f n s b (at + 2) room (test ∙ t) in
-              let c = values-count f n (v .0) (values-sound f n .only (drop (at + 2) s) (v .0) _ (v .1) .0) in
-              let z : length s - length (drop (at + 2 + valuesSize f n) s) ≡ at + 2 + w + k = omega (arith, sizes, length-drop (at + 2 + valuesSize f n) s) in
-              rw (byte-at s b at (omega arith), byte-at s b (at + 1) (omega arith), e, two, v .1, c, z)
+        block-long t =
+            let v = values-filled f n s b (at + 2) room t in
+            let c = values-count f n (v .0) (values-sound f n .only (drop (at + 2) s) (v .0) _ (v .1) .0) in
+            let z : length s - length (drop (at + 2 + valuesSize f n) s) ≡ at + 2 + n * valueSize f + fillSize f n = omega (arith, values-size f n, length-drop (at + 2 + valuesSize f n) s) in
+            rw (byte-at s b at (omega arith), byte-at s b (at + 1) (omega arith), e, two, v .1, c, z)
 
 -- a block that stands, as the layout reads it
 pub record Stood (fits : ℕ → ℕ → Bool) (s : List ℕ) (at : ℕ) (h : Head) : Type 0 where

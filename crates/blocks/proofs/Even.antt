@@ -1,28 +1,25 @@
 -- Blocks are even: a block of values is filled up, and all else of a request or a response has an even number of bytes.
-use mathlib.Core.Path.{_≡_, refl, sym, _∙_, ap}
+use mathlib.Core.Path.{_≡_, refl, ap}
 use mathlib.Core.List.{List, [], _∷_}
-use Prim.Native.Nat.{ℕ, _%_}
+use Prim.Native.Nat.{_%_}
 use native.Mathlib.Omega.{arith}
 use lib.ListN.{length, length-append}
 use Rattle.codes.specs.Code.{writeAll}
 use Rattle.codes.proofs.Items.{all-length}
-use Rattle.blocks.specs.declared.reader.Address.{Address}
 use Rattle.blocks.specs.Block.{Block}
 use Rattle.blocks.specs.Page.{addressBytes, blockBytes}
-use Rattle.blocks.specs.Laws.{EvenBlock, FilledByOne, EvenRequest, EvenResponse}
-use Rattle.blocks.proofs.Blocks.{fill-even, fill-small, values-size}
+use Rattle.blocks.specs.Laws.{EvenBlock, BlockLength, EvenRequest, EvenResponse}
+use Rattle.blocks.proofs.Blocks.{fill-even, values-size}
 use Rattle.blocks.proofs.Parts.{block-written}
 use Rattle.blocks.proofs.Demand.{requests, responses}
 
-pub even-block : EvenBlock
-even-block b =
+pub block-length : BlockLength
+block-length b =
     let n = length (b .values) in
     omega (arith, block-written (b .format) n (b .values) refl, values-size (b .format) n, fill-even (b .format) n)
 
-pub filled-by-one : FilledByOne
-filled-by-one b =
-    let n = length (b .values) in
-    omega (arith, block-written (b .format) n (b .values) refl, values-size (b .format) n, fill-small (b .format) n)
+pub even-block : EvenBlock
+even-block b = omega (arith, block-length b)
 
 even-blocks : (bs : List Block) → length (writeAll blockBytes bs) % 2 ≡ 0
 even-blocks [] = refl

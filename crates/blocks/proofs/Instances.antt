@@ -2,7 +2,7 @@
 use mathlib.Core.Path.{_≡_}
 use mathlib.Core.Bool.{true}
 use mathlib.Core.List.{List, [], _∷_}
-use Prim.Native.Nat.{ℕ, _+_, _*_, _≤_}
+use Prim.Native.Nat.{ℕ, _+_, _*_, _%_}
 use native.Mathlib.Omega.{arith}
 use lib.ListN.{length}
 use Rattle.codes.specs.Code.{readable}
@@ -10,7 +10,7 @@ use Rattle.blocks.specs.Block.{Block, blockLimit, valueSize}
 use Rattle.blocks.specs.Request.{request}
 use Rattle.blocks.specs.Response.{response}
 use Rattle.blocks.specs.Page.{blockBytes}
-use Rattle.blocks.proofs.Even.{filled-by-one, even-request, even-response}
+use Rattle.blocks.proofs.Even.{block-length, even-request, even-response}
 
 -- element 0 of 965 without its fill, as a response has it and as a change sends it
 element : List ℕ
@@ -34,10 +34,10 @@ bytes = record { format = 2; values = 3 ∷ 41 ∷ 255 ∷ [] }
 words : Block
 words = record { format = 6; values = 3 ∷ 41 ∷ 65535 ∷ [] }
 
-bytes-filled : length (blockBytes bytes) ≤ 2 + 3 * valueSize 2 + 1
+bytes-length : length (blockBytes bytes) ≡ 2 + 3 * valueSize 2 + 3 * valueSize 2 % 2
 unfolding bytes
-bytes-filled = filled-by-one bytes
+bytes-length = block-length bytes
 
-words-filled : length (blockBytes words) ≤ 2 + 3 * valueSize 6 + 1
+words-length : length (blockBytes words) ≡ 2 + 3 * valueSize 6 + 3 * valueSize 6 % 2
 unfolding words
-words-filled = filled-by-one words
+words-length = block-length words

@@ -1,7 +1,7 @@
 -- A block, written at a place of a slice: it goes in whole, or not at all.
-use mathlib.Core.Path.{_≡_, refl, sym, _∙_, ap}
+use mathlib.Core.Path.{_≡_, refl, sym, _∙_}
 use mathlib.Core.List.{List, [], _∷_, _++_}
-use Prim.Native.Nat.{ℕ, _+_, _*_, _%_, _≤_, _<_}
+use Prim.Native.Nat.{ℕ, _+_, _*_, _≤_, _<_}
 use native.Mathlib.Omega.{arith}
 use native.Mathlib.Numerals.{add-one}
 use lib.ListN.{length, set, replicate, length-append, length-replicate}
@@ -11,7 +11,7 @@ use Rattle.codes.specs.Number.{put}
 use Rattle.codes.proofs.Put.{put-too-long, put-append, sets-put}
 use Rattle.codes.proofs.Items.{all-length}
 use Rattle.blocks.proofs.Page.{number-length}
-use Rattle.blocks.proofs.Blocks.{values-size, filled-by, filled-size}
+use Rattle.blocks.proofs.Blocks.{values-size}
 use Rattle.blocks.specs.Block.{Block, valueSize, fillSize, valuesSize}
 use Rattle.blocks.specs.Page.{numberBytes, blockBytes}
 use Rattle.blocks.specs.Place.{putBlock}
@@ -30,30 +30,33 @@ block-counted l at b s = rw (le-leb (length (b .values)) 255 s)
 pub block-uncounted : (l : List ℕ) (at : ℕ) (b : Block) → 255 < length (b .values) → putBlock l at b ≡ l
 block-uncounted l at b s = rw (lt-leb (length (b .values)) 255 s)
 
--- A block by the sizes that the code has: w bytes of values, z each, and k that fill them.
-module _ (l : List ℕ) (at f z w k : ℕ) (vs : List ℕ) (ez : z ≡ valueSize f) (ew : w ≡ length vs * z) (ek : k ≡ w % 2) (few : length vs ≤ 255) where
+-- A block by its sizes: w bytes of values, and k that fill them.
+module _ (l : List ℕ) (at f : ℕ) (vs : List ℕ) (few : length vs ≤ 255) where
   abbrev b : Block
   b = record { format = f; values = vs }
 
-  bare : w ≡ length vs * valueSize f
-  bare = ew ∙ ap (λ (x : ℕ). length vs * x) ez
+  abbrev w : ℕ
+  w = length vs * valueSize f
 
-  size : length (blockBytes b) ≡ 2 + (w + k)
-  size = sym (block-written f (length vs) vs refl) ∙ ap (λ (x : ℕ). 2 + x) (sym (filled-size f (length vs) w k bare ek))
+  abbrev k : ℕ
+  k = fillSize f (length vs)
+
+  size : length (blockBytes b) ≡ 2 + w + k
+  size = omega (arith, block-written f (length vs) vs refl, values-size f (length vs))
 
   -- one that does not fit is not put
   pub block-too-long : length l < at + (2 + w + k) → putBlock l at b ≡ l
   block-too-long h = block-counted l at b few ∙ put-too-long l at (blockBytes b) (omega (arith, size))
 
   -- a format and a count stored, then the values put after them, and what fills them up after these
-  pub block-stored : at + (2 + w + k) ≤ length l → put (put (set (set l at f) (at + 1) (length vs)) (at + 2) (writeAll (numberBytes z) vs)) (at + 2 + w) (replicate k 0) ≡ putBlock l at b
+  pub block-stored : at + (2 + w + k) ≤ length l → put (put (set (set l at f) (at + 1) (length vs)) (at + 2) (writeAll (numberBytes (valueSize f)) vs)) (at + 2 + w) (replicate k 0) ≡ putBlock l at b
   block-stored h =
       let head = f ∷ length vs ∷ [] in
-      let all = writeAll (numberBytes z) vs in
-      let long : length all ≡ w = all-length (numberBytes z) z (number-length z) vs ∙ sym ew in
+      let all = writeAll (numberBytes (valueSize f)) vs in
+      let long : length all ≡ w = all-length (numberBytes (valueSize f)) (valueSize f) (number-length (valueSize f)) vs in
       let place : at + 2 + w ≡ at + length (head ++ all) = omega arith in
       rw (add-one, sets-put l at head (omega arith), put-append l at head all (omega arith), place)
-      (put-append l at (head ++ all) (replicate {A = ℕ} k 0) (omega (arith, length-replicate {A = ℕ} k 0)) ∙ (rw (ez, filled-by f (length vs) w k bare ek) refl ∙ sym (block-counted l at b few)))
+      (put-append l at (head ++ all) (replicate {A = ℕ} k 0) (omega (arith, length-replicate {A = ℕ} k 0)) ∙ sym (block-counted l at b few))
 
 -- `44 01` with its error word is a block
 pub error-bytes : (e : ℕ) → blockBytes (record { format = 0x44; values = e ∷ [] }) ≡ 0x44 ∷ 1 ∷ numberBytes 2 e

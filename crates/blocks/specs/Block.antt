@@ -1,4 +1,5 @@
--- Document 01, "Request block" and "Response block", with 02's R-2: what both are made of. A block is high byte first, of at most 240 bytes.
+-- Document 01, "Request block" and "Response block", with 02's R-2: what both are made of. A block is high byte first, of at most 240
+-- bytes.
 use mathlib.Core.List.{List}
 use mathlib.Core.Bool.{Bool, cond, _&&_, _||_}
 use Prim.Native.Nat.{ℕ, _%_}
@@ -53,7 +54,7 @@ responseBlockFits id f n =
     (cond (eqb id 0x81) (valueFits f n || errorFits f n)
     (emptyFits f n || errorFits f n))
 
--- R-2: "an odd number of byte values is followed by one zero byte", other values by none
+-- R-2: "an odd number of byte values is followed by one zero byte"; an even number of them, and wider values, by none
 abbrev pub fillSize : ℕ → ℕ → ℕ
 fillSize f n = cond (oneByte f) (n % 2) 0
 

@@ -3,7 +3,7 @@
 use mathlib.Core.Path.{_≡_}
 use mathlib.Core.List.{List}
 use mathlib.Core.Bool.{true}
-use Prim.Native.Nat.{ℕ, _+_, _*_, _%_, _≤_}
+use Prim.Native.Nat.{ℕ, _+_, _*_, _%_}
 use lib.ListN.{length}
 use Rattle.codes.specs.Code.{readable}
 use Rattle.blocks.specs.Block.{Block, blockLimit, valueSize}
@@ -15,9 +15,9 @@ use Rattle.blocks.specs.Page.{blockBytes}
 abbrev pub EvenBlock : Type 0
 EvenBlock = (b : Block) → length (blockBytes b) % 2 ≡ 0
 
--- "followed by one zero byte", and no more: beside that one it has its format, its count and its values
-abbrev pub FilledByOne : Type 0
-FilledByOne = (b : Block) → length (blockBytes b) ≤ 2 + length (b .values) * valueSize (b .format) + 1
+-- its format, its count, its values and, where the bytes of these are odd in number, one more
+abbrev pub BlockLength : Type 0
+BlockLength = (b : Block) → let bare = length (b .values) * valueSize (b .format) in length (blockBytes b) ≡ 2 + bare + bare % 2
 
 -- so no block of odd length is readable
 abbrev pub EvenRequest : Type 0

@@ -1,5 +1,5 @@
--- Document 01, "Request block" and "Response block", with 02's R-2, in plain words: for each, the values that are valid and the bytes that are
--- written. The codes of Request.antt and Response.antt say exactly this (proofs/Page.antt).
+-- Document 01, "Request block" and "Response block", with 02's R-2, in plain words: for each, the values that are valid and the bytes
+-- that are written. The codes of Request.antt and Response.antt say exactly this (proofs/Page.antt).
 use mathlib.Core.Path.{_≡_}
 use mathlib.Core.List.{List, [], _∷_, _++_}
 use mathlib.Core.Bool.{Bool, true}

@@ -1,7 +1,7 @@
 // Formats, their sizes, and which blocks may stand where.
 ghost use mathlib.Core.Path.{_≡_};
-ghost use Prim.Native.Nat.{_*_, _%_, _≤_};
-ghost use Rattle.blocks.specs.Block.{formatSize, valueSize, valueFits, errorFits, emptyFits, responseBlockFits, valuesSize};
+ghost use Prim.Native.Nat.{_*_, _≤_};
+ghost use Rattle.blocks.specs.Block.{formatSize, valueSize, valueFits, errorFits, emptyFits, responseBlockFits, fillSize};
 ghost use Rattle.blocks.specs.Request.{requestBlocks};
 ghost use Rattle.blocks.specs.Response.{responseBlocks, isAnswer};
 ghost use Rattle.blocks.specs.Walk.{ruleOf};
@@ -30,27 +30,24 @@ pub fn value_size(f: u8) -> usize
     if f == 0x44 { 2 } else { format_size(f) }
 }
 
-// Bytes of n values of `size` bytes each, without the one that may fill them up.
-pub fn bare_size(n: u8, size: usize) -> usize
-    requires { ⌜ size ≤ 4 ⌝ }
-    ensures { λ r. ⌜ (r ≡ n * size) × (r ≤ 1020) ⌝ }
-{
-    codes::wide(n) * size
+// Bytes of a block's values: of each, of all of them, and how many fill these up to an even number.
+pub struct Sizes {
+    pub each: usize,
+    pub bare: usize,
+    pub fill: usize,
 }
 
-// How many bytes fill so many bytes of values: one makes an odd number even.
-pub fn fill_of(bare: usize) -> usize
-    ensures { λ r. ⌜ r ≡ bare % 2 ⌝ }
+// Those of n values of the format f.
+pub fn sizes_of(f: u8, n: u8) -> Sizes
+    ensures { λ r. ⌜ (r ≡ record { each = valueSize f; bare = n * valueSize f; fill = fillSize f n }) × (r .each ≤ 4) × (r .bare ≤ 1020) × (r .fill ≤ 1) ⌝ }
 {
-    bare % 2
-}
-
-// Bytes of n values of the format f, filled up.
-pub fn values_size(f: u8, n: u8) -> usize
-    ensures { λ r. ⌜ (r ≡ valuesSize f n) × (r ≤ 1020) ⌝ }
-{
-    let bare = bare_size(n, value_size(f));
-    bare + fill_of(bare)
+    let each = value_size(f);
+    let bare = codes::wide(n) * each;
+    Sizes {
+        each,
+        bare,
+        fill: bare % 2,
+    }
 }
 
 fn value_fits(f: u8, n: u8) -> bool

@@ -85,19 +85,18 @@ fn block_by(s: &[u8], at: usize, these: Blocks) -> BlockAt
     if !layout::block_fits(these, f, n) {
         return BlockAt::Nothing;
     }
-    let bare = layout::bare_size(n, layout::value_size(f));
-    let fill = layout::fill_of(bare);
-    if s.len() - 2 - at < bare + fill {
+    let z = layout::sizes_of(f, n);
+    if s.len() - 2 - at < z.bare + z.fill {
         return BlockAt::Nothing;
     }
-    let end = at + 2 + bare;
-    if !is_filled(s, end, fill) {
+    let end = at + 2 + z.bare;
+    if !is_filled(s, end, z.fill) {
         return BlockAt::Nothing;
     }
     let h = Head {
         format: f,
         count: n,
-        next: end + fill,
+        next: end + z.fill,
     };
     BlockAt::Stands(h)
 }

@@ -26,7 +26,8 @@ pub fn put_header(out: &mut [u8], h: Header)
 pub fn block_size(f: u8, n: u8) -> usize
     ensures { λ r. ⌜ r ≡ 2 + valuesSize f n ⌝ }
 {
-    2 + super::layout::values_size(f, n)
+    let z = super::layout::sizes_of(f, n);
+    2 + z.bare + z.fill
 }
 
 // Writes each value in `size` bytes from `at` on, where they all fit.
@@ -59,19 +60,18 @@ pub fn put_block(out: &mut [u8], at: usize, f: u8, values: &[u32])
         return;
     }
     let n = values.len() as u8;
-    let size = super::layout::value_size(f);
-    let bare = super::layout::bare_size(n, size);
-    let fill = super::layout::fill_of(bare);
-    if out.len() < 2 + bare + fill {
+    let z = super::layout::sizes_of(f, n);
+    let bytes = 2 + z.bare + z.fill;
+    if out.len() < bytes {
         return;
     }
-    if out.len() - (2 + bare + fill) < at {
+    if out.len() - bytes < at {
         return;
     }
     out[at] = f;
     out[at + 1] = n;
-    put_values(out, at + 2, size, values);
-    put_fill(out, at + 2 + bare, fill);
+    put_values(out, at + 2, z.each, values);
+    put_fill(out, at + 2 + z.bare, z.fill);
 }
 
 // `40 00`: a parameter of a change that did not fail.

@@ -83,7 +83,7 @@ module _ {A : Type 0} (c : Code A) (w : ℕ) (fc : Fixed c w) where
   pub fixed-times : (n : ℕ) → Fixed (times n c) (n * w)
   fixed-times n = record { enough = times-enough n; short = times-short n }
 
--- A fill is read byte by byte where they are zero, and nowhere else.
+-- A fill is read byte by byte where these are zero, and nowhere else.
 module _ {A : Type 0} (x : A) (n : ℕ) (s : List ℕ) (b : Bytes s) (at : ℕ) (h : at < length s) where
   pub fill-zero : getD s at 0 ≡ 0 → fill (suc n) x .read (drop at s) ≡ fill n x .read (drop (at + 1) s)
   fill-zero z = rw (byte-at s b at h, eq-eqb (getD s at 0) 0 z)

@@ -1,10 +1,13 @@
 -- Each test that fails says why no block stands at the place.
 use Rattle.codes.proofs.Fixed.{Bytes}
-use Rattle.blocks.specs.Block.{valueSize}
+use Rattle.blocks.specs.declared.layout.Sizes.{Sizes}
+use Rattle.blocks.specs.declared.BlockAt.the-variants.{Stands}
 use Rattle.blocks.specs.Walk.{ruleOf}
 use Rattle.blocks.proofs.Blocks.{block-stub, block-unfit, block-short, block-unfilled, block-long}
-use mathlib.Core.Path.{_≡_, sym, _∙_, ap}
-use Prim.Native.Nat.{ℕ, _+_, _*_}
+use mathlib.Core.Bool.{_||_}
+use mathlib.Core.Path.{sym, _∙_, ap}
+use Prim.Native.Nat.{_+_}
+use lib.Dec.{eqb}
 use lib.ListN.{getD}
 use denote.Ref.{now}
 use native.Mathlib.Omega.{arith}
@@ -46,14 +49,8 @@ returns-3 c =
     let y : Bytes (now (a .s)) = λ i. omega (arith, c .before .before .before .before .before .before .shared-slice-known .given i) in
     block-unfit (ruleOf (a .these)) (now (a .s)) y (a .at) (omega arith) (sym (c .before .block-fits .ensures) ∙ not-true (c .before .block-fits .result) (c .if3 .taken))
 
-value-size-requires : tie.Need-value-size-requires
-value-size-requires c κs = search needs
-
-bare-size-requires : tie.Need-bare-size-requires
-bare-size-requires c κs = search needs
-
-fill-of-requires : tie.Need-fill-of-requires
-fill-of-requires c κs = search needs
+sizes-of-requires : tie.Need-sizes-of-requires
+sizes-of-requires c κs = search needs
 
 sub-if4 : tie.Need-sub-if4
 sub-if4 c = search needs
@@ -66,14 +63,15 @@ add-if4 c = search needs
 
 returns-4 : tie.Need-returns-4
 returns-4 c =
-    let a = c .before .before .before .before .before .before .before .before .before .before .before .args in
-    let y : Bytes (now (a .s)) = λ i. omega (arith, c .before .before .before .before .before .before .before .before .before .before .shared-slice-known .given i) in
-    let b = c .before .before .before .before .before .block-fits in
-    let fits = sym (b .ensures) ∙ not-false (b .result) (c .before .before .before .before .if3 .left) in
-    let w = c .before .before .bare-size in
-    let k = c .before .fill-of in
-    let ew : w .result ≡ getD (now (a .s)) (a .at + 1) 0 * valueSize (getD (now (a .s)) (a .at) 0) = w .ensures .0 ∙ ap (λ (x : ℕ). getD (now (a .s)) (a .at + 1) 0 * x) (c .before .before .before .value-size .ensures .0) in
-    block-short (ruleOf (a .these)) (now (a .s)) y (a .at) (omega arith) fits (w .result) (k .result) ew (k .ensures) (omega arith)
+    let a = c .before .before .before .before .before .before .before .before .before .before .args in
+    let s = now (a .s) in
+    let y : Bytes s = λ i. omega (arith, c .before .before .before .before .before .before .before .before .before .shared-slice-known .given i) in
+    let b = c .before .before .before .before .block-fits in
+    let fits = sym (b .ensures) ∙ not-false (b .result) (c .before .before .before .if3 .left) in
+    let z = c .before .before .sizes-of .ensures .0 in
+    let bare = ap (λ (x : Sizes). x .bare) z in
+    let fill = ap (λ (x : Sizes). x .fill) z in
+    block-short (ruleOf (a .these)) s y (a .at) (omega arith) fits (omega (arith, bare, fill))
 
 add-end : tie.Need-add-end
 add-end c = search needs
@@ -87,31 +85,34 @@ is-filled-requires c κs = search needs
 returns-5 : tie.Need-returns-5
 returns-5 c =
     let a = c .before .before .before .before .before .before .before .before .before .before .before .before .before .args in
-    let y : Bytes (now (a .s)) = λ i. omega (arith, c .before .before .before .before .before .before .before .before .before .before .before .before .shared-slice-known .given i) in
+    let s = now (a .s) in
+    let y : Bytes s = λ i. omega (arith, c .before .before .before .before .before .before .before .before .before .before .before .before .shared-slice-known .given i) in
     let b = c .before .before .before .before .before .before .before .block-fits in
     let fits = sym (b .ensures) ∙ not-false (b .result) (c .before .before .before .before .before .before .if3 .left) in
-    let w = c .before .before .before .before .bare-size in
-    let k = c .before .before .before .fill-of in
-    let ew : w .result ≡ getD (now (a .s)) (a .at + 1) 0 * valueSize (getD (now (a .s)) (a .at) 0) = w .ensures .0 ∙ ap (λ (x : ℕ). getD (now (a .s)) (a .at + 1) 0 * x) (c .before .before .before .before .before .value-size .ensures .0) in
+    let z = c .before .before .before .before .before .sizes-of .ensures .0 in
+    let bare = ap (λ (x : Sizes). x .bare) z in
+    let fill = ap (λ (x : Sizes). x .fill) z in
     let t = c .before .is-filled in
-    block-unfilled (ruleOf (a .these)) (now (a .s)) y (a .at) (omega arith) fits (w .result) (k .result) ew (k .ensures) (omega arith) (t .result) (t .ensures)
-    (not-true (t .result) (c .if5 .taken))
+    let tested = ap (λ (x : Sizes). eqb (x .fill) 0 || eqb (getD s (a .at + 2 + x .bare) 0) 0) (sym z) ∙ sym (t .ensures) in
+    block-unfilled (ruleOf (a .these)) s y (a .at) (omega arith) fits (omega (arith, bare, fill)) (tested ∙ not-true (t .result) (c .if5 .taken))
 
-add-t10 : tie.Need-add-t10
-add-t10 c = search needs
+add-t11 : tie.Need-add-t11
+add-t11 c = search needs
 
 returns-6 : tie.Need-returns-6
 returns-6 c =
-    let a = c .before .before .before .before .before .before .before .before .before .before .before .before .before .args in
-    let y : Bytes (now (a .s)) = λ i. omega (arith, c .before .before .before .before .before .before .before .before .before .before .before .before .shared-slice-known .given i) in
-    let b = c .before .before .before .before .before .before .before .block-fits in
-    let fits = sym (b .ensures) ∙ not-false (b .result) (c .before .before .before .before .before .before .if3 .left) in
-    let w = c .before .before .before .before .bare-size in
-    let k = c .before .before .before .fill-of in
-    let ew : w .result ≡ getD (now (a .s)) (a .at + 1) 0 * valueSize (getD (now (a .s)) (a .at) 0) = w .ensures .0 ∙ ap (λ (x : ℕ). getD (now (a .s)) (a .at + 1) 0 * x) (c .before .before .before .before .before .value-size .ensures .0) in
-    let t = c .before .is-filled in
-    block-long (ruleOf (a .these)) (now (a .s)) y (a .at) (omega arith) fits (w .result) (k .result) ew (k .ensures) (omega arith) (t .result) (t .ensures)
-    (not-false (t .result) (c .if5 .left))
+    let a = c .before .before .before .before .before .before .before .before .before .before .before .before .before .before .args in
+    let s = now (a .s) in
+    let y : Bytes s = λ i. omega (arith, c .before .before .before .before .before .before .before .before .before .before .before .before .before .shared-slice-known .given i) in
+    let b = c .before .before .before .before .before .before .before .before .block-fits in
+    let fits = sym (b .ensures) ∙ not-false (b .result) (c .before .before .before .before .before .before .before .if3 .left) in
+    let z = c .before .before .before .before .before .before .sizes-of .ensures .0 in
+    let bare = ap (λ (x : Sizes). x .bare) z in
+    let fill = ap (λ (x : Sizes). x .fill) z in
+    let t = c .before .before .is-filled in
+    let tested = ap (λ (x : Sizes). eqb (x .fill) 0 || eqb (getD s (a .at + 2 + x .bare) 0) 0) (sym z) ∙ sym (t .ensures) in
+    ap (λ (x : Sizes). Stands (record { format = getD s (a .at) 0; count = getD s (a .at + 1) 0; next = a .at + 2 + x .bare + x .fill })) z
+    ∙ block-long (ruleOf (a .these)) s y (a .at) (omega arith) fits (omega (arith, bare, fill)) (tested ∙ not-false (t .result) (c .before .if5 .left))
 
 pub block-by-spec : {M : Type 1} → statement M
 block-by-spec =
@@ -125,9 +126,7 @@ block-by-spec =
     shared-slice-read-n
     block-fits-requires
     returns-3
-    value-size-requires
-    bare-size-requires
-    fill-of-requires
+    sizes-of-requires
     sub-if4
     sub-if4-2
     add-if4
@@ -136,5 +135,5 @@ block-by-spec =
     add-end-2
     is-filled-requires
     returns-5
-    add-t10
+    add-t11
     returns-6)

@@ -1,9 +1,11 @@
 -- What is too many or too long is not put; else a format and a count stored, with the values and what fills them up after them, are the block.
+use Rattle.blocks.specs.declared.layout.Sizes.{Sizes}
 use Rattle.blocks.proofs.Parts.{block-uncounted, block-too-long, block-stored}
 use denote.Ref.{now}
-use lib.ListN.{length-set}
+use lib.ListN.{length, length-set}
 use native.Mathlib.Omega.{arith}
-use mathlib.Core.Path.{sym, _∙_}
+use mathlib.Core.Path.{sym, _∙_, ap}
+use Prim.Native.Nat.{_*_}
 use borrow.Author.Needs.{needs}
 use Rattle.blocks.proofs.writer.put_block.Statement.{statement}
 use Rattle.blocks.proofs.writer.put_block.Tie as tie
@@ -16,34 +18,20 @@ returns c =
 cast-n : tie.Need-cast-n
 cast-n c = search needs
 
-value-size-requires : tie.Need-value-size-requires
-value-size-requires c κs = search needs
+sizes-of-requires : tie.Need-sizes-of-requires
+sizes-of-requires c κs = search needs
 
-bare-size-requires : tie.Need-bare-size-requires
-bare-size-requires c κs = search needs
+add-bytes : tie.Need-add-bytes
+add-bytes c = search needs
 
-fill-of-requires : tie.Need-fill-of-requires
-fill-of-requires c κs = search needs
-
-add-if2 : tie.Need-add-if2
-add-if2 c = search needs
-
-add-if2-2 : tie.Need-add-if2-2
-add-if2-2 c = search needs
+add-bytes-2 : tie.Need-add-bytes-2
+add-bytes-2 c = search needs
 
 returns-2 : tie.Need-returns-2
 returns-2 c =
     let a = c .before .before .before .before .before .before .before .args in
-    let z = c .before .before .before .value-size in
-    let w = c .before .before .bare-size in
-    let k = c .before .fill-of in
-    sym (block-too-long (now (a .out)) (a .at) (a .f) (z .result) (w .result) (k .result) (now (a .values)) (z .ensures .0) (w .ensures .0) (k .ensures) (omega arith) (omega arith))
-
-add-if3 : tie.Need-add-if3
-add-if3 c = search needs
-
-add-if3-2 : tie.Need-add-if3-2
-add-if3-2 c = search needs
+    let z = c .before .before .before .sizes-of .ensures .0 in
+    sym (block-too-long (now (a .out)) (a .at) (a .f) (now (a .values)) (omega arith) (omega (arith, ap (λ (x : Sizes). x .bare) z, ap (λ (x : Sizes). x .fill) z)))
 
 sub-if3 : tie.Need-sub-if3
 sub-if3 c = search needs
@@ -51,10 +39,8 @@ sub-if3 c = search needs
 returns-3 : tie.Need-returns-3
 returns-3 c =
     let a = c .before .before .before .before .before .before .before .before .args in
-    let z = c .before .before .before .before .value-size in
-    let w = c .before .before .before .bare-size in
-    let k = c .before .before .fill-of in
-    sym (block-too-long (now (a .out)) (a .at) (a .f) (z .result) (w .result) (k .result) (now (a .values)) (z .ensures .0) (w .ensures .0) (k .ensures) (omega arith) (omega arith))
+    let z = c .before .before .before .before .sizes-of .ensures .0 in
+    sym (block-too-long (now (a .out)) (a .at) (a .f) (now (a .values)) (omega arith) (omega (arith, ap (λ (x : Sizes). x .bare) z, ap (λ (x : Sizes). x .fill) z)))
 
 slice-write-out : tie.Need-slice-write-out
 slice-write-out c = search needs
@@ -69,7 +55,10 @@ add-put-values : tie.Need-add-put-values
 add-put-values c = search needs
 
 put-values-requires : tie.Need-put-values-requires
-put-values-requires c κs = simp length-set (omega (arith, c .before .before .before .before .bare-size .ensures .0))
+put-values-requires c κs =
+    let a = c .before .before .before .before .before .before .before .before .before .args in
+    let z = c .before .before .before .before .before .sizes-of .ensures .0 in
+    simp length-set (omega (arith, ap (λ (x : Sizes). length (now (a .values)) * x .each) z, ap (λ (x : Sizes). x .bare) z))
 
 add-put-fill : tie.Need-add-put-fill
 add-put-fill c = search needs
@@ -78,21 +67,17 @@ add-put-fill-2 : tie.Need-add-put-fill-2
 add-put-fill-2 c = search needs
 
 put-fill-requires : tie.Need-put-fill-requires
-put-fill-requires c κs =
-    let k = c .before .before .before .before .before .before .before .fill-of in
-    (omega (arith, k .ensures), rw (c .before .before .before .put-values .kept .0) (simp length-set (omega arith)))
+put-fill-requires c κs = (search needs, rw (c .before .before .before .before .put-values .kept .0) (simp length-set (omega arith)))
 
 same-length : tie.Need-same-length
-same-length c = c .before .before .put-fill .kept .0 ∙ (c .before .before .before .before .before .before .put-values .kept .0 ∙ simp length-set)
+same-length c = c .before .before .put-fill .kept .0 ∙ (c .before .before .before .before .before .before .before .put-values .kept .0 ∙ simp length-set)
 
 returns-4 : tie.Need-returns-4
 returns-4 c =
-    let a = c .before .before .before .before .before .before .before .before .before .before .before .before .before .before .before .before .args in
-    let z = c .before .before .before .before .before .before .before .before .before .before .before .before .value-size in
-    let w = c .before .before .before .before .before .before .before .before .before .before .before .bare-size in
-    let k = c .before .before .before .before .before .before .before .before .before .before .fill-of in
-    rw (c .before .before .put-fill .ensures, c .before .before .before .before .before .before .put-values .ensures)
-    (block-stored (now (a .out)) (a .at) (a .f) (z .result) (w .result) (k .result) (now (a .values)) (z .ensures .0) (w .ensures .0) (k .ensures) (omega arith) (omega arith))
+    let a = c .before .before .before .before .before .before .before .before .before .before .before .before .before .before .before .before .before .args in
+    let z = c .before .before .before .before .before .before .before .before .before .before .before .before .before .sizes-of .ensures .0 in
+    rw (c .before .before .put-fill .ensures, c .before .before .before .before .before .before .before .put-values .ensures, z)
+    (block-stored (now (a .out)) (a .at) (a .f) (now (a .values)) (omega arith) (omega (arith, ap (λ (x : Sizes). x .bare) z, ap (λ (x : Sizes). x .fill) z)))
 
 pub put-block-spec : {M : Type 1} → statement M
 put-block-spec =
@@ -100,14 +85,10 @@ put-block-spec =
     (tie.spec
     returns
     cast-n
-    value-size-requires
-    bare-size-requires
-    fill-of-requires
-    add-if2
-    add-if2-2
+    sizes-of-requires
+    add-bytes
+    add-bytes-2
     returns-2
-    add-if3
-    add-if3-2
     sub-if3
     returns-3
     slice-write-out

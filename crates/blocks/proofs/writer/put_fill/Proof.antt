@@ -1,11 +1,8 @@
 -- One byte or none.
 use Rattle.codes.proofs.Put.{put-none, sets-put}
-use Rattle.codes.specs.Number.{put}
-use mathlib.Core.Path.{_≡_, sym, _∙_, ap}
-use mathlib.Core.List.{List, [], _∷_}
-use Prim.Native.Nat.{ℕ}
+use mathlib.Core.Path.{_≡_, sym}
+use mathlib.Core.List.{[], _∷_}
 use denote.Ref.{now}
-use lib.ListN.{replicate}
 use native.Mathlib.Omega.{arith}
 use borrow.Author.Needs.{needs}
 use Rattle.blocks.proofs.writer.put_fill.Statement.{statement}
