@@ -260,6 +260,10 @@ fn fills() {
         b"a byte and a word, filled at the end",
         b"\x41\x01\x03\x42\x01\x00\x05\x00",
     );
+}
+
+// In the last block too, and in each of two.
+fn fills_of_each() {
     filled(
         b"a word and a byte, filled",
         b"\x42\x01\x00\x05\x05\x01\x03\x00",
@@ -523,6 +527,7 @@ fn main() {
     counts();
     fill_sizes();
     fills();
+    fills_of_each();
     response_headers();
     read_answers();
     change_answers();

@@ -1,4 +1,4 @@
--- Each clause of the rule of a well-formed part refuses something: a fresh part with one place written over.
+-- Each clause of the rule of a well-formed part refuses something: a fresh part with one place written over. The first is refused by none.
 use mathlib.Core.Path.{_≡_, refl}
 use mathlib.Core.Bool.{true, false}
 use mathlib.Core.List.{List, [], _∷_, map}
@@ -14,11 +14,12 @@ use Rattle.part.specs.Layout.{stateAt, lengthAt, responseAt}
 use Rattle.part.specs.Fresh.{freshPart}
 use Rattle.part.specs.WellFormed.{limitsFit, fixedFit, waitingFits, unusedFit, wellFormed}
 
--- state 5; mark 3 at 3001; 930 at 2; 965 at 4; a code after a 0; a code twice; a response of axis 2, and one cut; a byte value without its
--- fill, and one filled with 1; an unused byte
-ill-formed :
+-- a byte value and its fill, waiting; state 5; mark 3 at 3001; 930 at 2; 965 at 4; a code after a 0; a code twice; a response of axis 2, and
+-- one cut; a byte value without its fill, and one filled with 1; an unused byte
+formed :
     map (λ (x : ℕ × List ℕ). wellFormed 1 (put freshPart (x .0) (x .1)))
-    ((stateAt, 5 ∷ [])
+    ((lengthAt, 8 ∷ 7 ∷ 1 ∷ 1 ∷ 1 ∷ 0x41 ∷ 1 ∷ 3 ∷ 0 ∷ [])
+    ∷ (stateAt, 5 ∷ [])
     ∷ (offsetOf 30001 + 6, 0x0B ∷ 0xB9 ∷ [])
     ∷ (offsetOf 930, 0 ∷ 2 ∷ [])
     ∷ (offsetOf 965, 4 ∷ [])
@@ -30,11 +31,6 @@ ill-formed :
     ∷ (lengthAt, 8 ∷ 7 ∷ 1 ∷ 1 ∷ 1 ∷ 0x41 ∷ 1 ∷ 3 ∷ 1 ∷ [])
     ∷ (responseAt + 239, 1 ∷ [])
     ∷ [])
-    ≡ replicate 11 false
+    ≡ true ∷ replicate 11 false
 unfolding readable numberAt put formatSize valueSize responseBlockFits valuesOf block responseBlocks errorsFit hasError response rows parameterBytes findOf offsetOf inside elementOf putElement freshPart limitsFit fixedFit waitingFits unusedFit wellFormed
-ill-formed = refl
-
--- the same byte value with its fill may wait
-filled : wellFormed 1 (put freshPart lengthAt (8 ∷ 7 ∷ 1 ∷ 1 ∷ 1 ∷ 0x41 ∷ 1 ∷ 3 ∷ 0 ∷ [])) ≡ true
-unfolding readable numberAt put formatSize valueSize responseBlockFits valuesOf block responseBlocks errorsFit hasError response rows parameterBytes findOf offsetOf inside elementOf putElement freshPart limitsFit fixedFit waitingFits unusedFit wellFormed
-filled = refl
+formed = refl

@@ -185,10 +185,11 @@ fn offsets() {
     read(b"both offsets", part, value(2, 30004, 0));
 }
 
-// n single elements of 965, which take 4 bytes each with their fill, and three reads of all 947, whose addresses begin at `at`.
-fn filled(label: &[u8], part: Part, n: u8, at: usize) -> Part
-    requires { ⌜ (n ≤ 36) × (at ≤ 222) ⌝ }
+// n single elements of 965, which take 4 bytes each with their fill, and three reads of all 947.
+fn filled(label: &[u8], part: Part, n: u8) -> Part
+    requires { ⌜ n ≤ 36 ⌝ }
 {
+    let at = FIRST + codes::wide(n) * 6;
     let mut block = headed(1, n + 3);
     put_addresses(&mut block, FIRST, n, value(1, 965, 0));
     put_addresses(&mut block, at, 3, value(32, 947, 0));
@@ -200,8 +201,8 @@ fn fills() {
     let part = read(b"965, element 0", part, value(1, 965, 0));
     let part = read(b"965, element 1", part, value(1, 965, 1));
     let part = read(b"965, both", part, value(2, 965, 0));
-    let part = filled(b"965 nine times and three reads of all 947", part, 9, 58);
-    filled(b"965 ten times and three reads of all 947", part, 10, 64);
+    let part = filled(b"965 nine times and three reads of all 947", part, 9);
+    filled(b"965 ten times and three reads of all 947", part, 10);
 }
 
 // The most addresses, and the most bytes of a response.
