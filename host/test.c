@@ -1016,6 +1016,36 @@ static void fill_bytes_read(void)
     send("ten of 965 and three 947 fetched", (struct sending){ 1, hex(fetch), 0, REPLY, 0, 0, response });
 }
 
+/* Farm 1's part is ill-formed by what waits in it. */
+static void ill_formed(const char *why)
+{
+    frame(named("2: fetch, %s", why), 1, fetch, 2, 0, "");
+    frame(named("2: write, %s", why), 1, read_930, 2, 0, "");
+    cycle(named("2: cycle, %s", why), (struct turn){ .axis = 1, .stw1 = 0x047E, .number = 2 });
+}
+
+/* Number 2 by a fill byte. Where a response waits is the library's own, so its length and its bytes are looked for. */
+static void fill_bytes_waiting(void)
+{
+    struct bytes response = hex("08  07 01 01 01  41 01 03 00");
+    size_t last = part_size() - response.len, at = 0;
+
+    fresh_station();
+    frame("one element of 965", 1, "5F 00 2F 0A  07 01 01 01  10 01 03 C5 00 00", 0, 0, "5F 00 2F 0A");
+    while (at < last && memcmp(part(1) + at, response.at, response.len) != 0)
+        at++;
+    check("one element of 965", "waits in the part", memcmp(part(1) + at, response.at, response.len) == 0);
+    part(1)[at + 8] = 0xFF;
+    ill_formed("fill byte FF");
+    part(1)[at + 8] = 0;
+    part(1)[at] = 7;
+    ill_formed("no fill byte");
+    part(1)[at] = 9;
+    ill_formed("two fill bytes");
+    part(1)[at] = 8;
+    frame("one element of 965 fetched", 1, fetch, 0, 0, "5E 00 2F 08  07 01 01 01  41 01 03 00");
+}
+
 /* Every error word of the address rules, beside addresses that work. */
 static void addresses(void)
 {
@@ -1138,6 +1168,7 @@ static void placed(enum placing here)
     full_write();
     fill_bytes_written();
     fill_bytes_read();
+    fill_bytes_waiting();
     addresses();
     cycles();
     faults();
@@ -1213,6 +1244,7 @@ static const struct group {
     { "block of 240 bytes", full_write },
     { "fill bytes written", fill_bytes_written },
     { "fill bytes read", fill_bytes_read },
+    { "fill bytes waiting", fill_bytes_waiting },
     { "address rules", addresses },
     { "cycles", cycles },
     { "faults", faults },

@@ -182,7 +182,7 @@ impl Seen {
     }
 }
 
-/// Wireshark's version, or why it does not start.
+/// Wireshark's version, or why it does not start. Newer builds name no commit behind it.
 pub fn version() -> Result<String, String> {
     let told = Command::new("tshark").arg("--version").output().map_err(|error| format!("tshark: {error}"))?;
     let told = String::from_utf8_lossy(&told.stdout);

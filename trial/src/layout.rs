@@ -133,7 +133,7 @@ impl Block {
     /// What the twin reads in a request block; none where it is unreadable.
     pub fn of_request(block: &[u8]) -> Option<Block> {
         let request: Request = twin::parse_request(block)?;
-        // As many as there are, so that the twin is not asked for one more.
+        // As many as there are: no call asks the twin for the end of its values, and to ask here would count as reached.
         let value_blocks = if request.kind == RequestKind::Change { request.count } else { 0 };
         Some(Block {
             reference: request.reference,

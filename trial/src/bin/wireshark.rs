@@ -303,8 +303,11 @@ impl Bench {
 
     /// Every format, attribute and number of parameters, every byte where a byte may be any, and fill bytes.
     fn every_request(&mut self) -> Result<(), String> {
-        for block in each_format_alone().iter().chain(&all_formats_in_one()).chain(&filled_changes()) {
+        for block in each_format_alone().iter().chain(&all_formats_in_one()) {
             self.request("a change of every format", block.axis, block)?;
+        }
+        for block in filled_changes() {
+            self.request("a change with fill bytes", block.axis, &block)?;
         }
         for block in reads_of_single_bytes() {
             self.request("single elements of 965", block.axis, &block)?;
