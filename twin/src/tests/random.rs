@@ -193,7 +193,7 @@ fn told(lines: &str) -> Totals {
 #[test]
 fn random_seasons() {
     let mut random = Random(0x5EA5_0217_CA11_ED17);
-    // So many that every farm stores an element, though most blocks are refused.
+    // So many that no count of any farm stays at 0; with 30,000 one does.
     let journal: Vec<u8> = (0..90_000).flat_map(|_| random_record(&mut random)).collect();
     let (mut lines, mut season) = (Vec::new(), Vec::new());
     replay(&journal[..], &mut lines).unwrap();
