@@ -93,6 +93,15 @@ put-append l at bs cs h =
     ∙ (rw (put-drop l at bs (at + length bs + length cs) (omega arith), f, take-at (take at l ++ bs) (drop (at + length bs) l) (at + length bs) g, a, append-assoc, append-assoc, n) refl
     ∙ sym (put-fits l at (bs ++ cs) (omega arith)))
 
+-- what is put over no more bytes is all that is put
+pub put-over : (l : List ℕ) (at : ℕ) (bs cs : List ℕ) → length bs ≤ length cs → at + length cs ≤ length l → put (put l at bs) at cs ≡ put l at cs
+put-over l at bs cs over h =
+    let m = put l at bs in
+    let f : m ≡ take at l ++ (bs ++ drop (at + length bs) l) = put-fits l at bs (omega arith) in
+    let front : take at m ≡ take at l = ap (take at) f ∙ take-at (take at l) (bs ++ drop (at + length bs) l) at (length-take-le at l (omega arith)) in
+    put-fits m at cs (omega (arith, put-length l at bs))
+    ∙ (rw (front, put-drop l at bs (at + length cs) (omega arith)) refl ∙ sym (put-fits l at cs h))
+
 -- bytes stored one by one are put
 pub sets-put : (l : List ℕ) (at : ℕ) (bs : List ℕ) → at + length bs ≤ length l → sets l at bs ≡ put l at bs
 sets-put l at bs h = sets-eq bs l at h ∙ (append-assoc (take at l) bs (drop (at + length bs) l) ∙ sym (put-fits l at bs h))

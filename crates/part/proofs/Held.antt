@@ -10,7 +10,7 @@ use lib.Seq.{take-all, take-append-seam, drop-append-seam, drop-at, length-take-
 use borrow.Author.Tests.{eq-eqb, le-leb, leb-true}
 use Rattle.codes.specs.Code.{readable, readsAll, word}
 use Rattle.codes.specs.Number.{numberAt, put, signedOf}
-use Rattle.codes.proofs.Put.{put-length, put-fits}
+use Rattle.codes.proofs.Put.{put-length, put-fits, put-append, put-over}
 use Rattle.codes.proofs.Number.{number-put, number-before}
 use Rattle.blocks.specs.Block.{blockLimit}
 use Rattle.blocks.specs.Response.{response}
@@ -90,6 +90,11 @@ module _ (bs p : List ℕ) where
     abbrev filled : List ℕ
     filled = bs ++ replicate (blockLimit - length bs) 0
 
+    -- length and response are put side by side
+    all-put : withResponse bs p ≡ put p lengthAt (length bs ∷ filled)
+    unfolding withResponse
+    all-put = put-append p lengthAt (length bs ∷ []) filled (omega (arith, filled-length bs short))
+
     -- how many bytes wait
     pub waiting-length-is : waitingLength (withResponse bs p) ≡ length bs
     unfolding withResponse
@@ -146,3 +151,14 @@ readable-short bs e = leb-true (length bs) blockLimit (and-eq-true-iff (leb (len
 pub waits-for-none : (axis : ℕ) (p : List ℕ) → length p ≡ partSize → waitingFits axis (withResponse [] p) ≡ true
 unfolding waitingFits
 waits-for-none axis p long = rw (eq-eqb (waitingLength (withResponse [] p)) 0 (waiting-length-is [] p long (omega arith)))
+
+-- a response stored over another leaves nothing of it
+pub response-again :
+    (bs cs p : List ℕ) → length p ≡ partSize → length bs ≤ blockLimit → length cs ≤ blockLimit
+    → withResponse cs (withResponse bs p) ≡ withResponse cs p
+response-again bs cs p long short most =
+    all-put cs (withResponse bs p) (response-length bs p ∙ long) most
+    ∙ (ap (λ (l : List ℕ). put l lengthAt (length cs ∷ cs ++ replicate (blockLimit - length cs) 0)) (all-put bs p long short)
+    ∙ (put-over p lengthAt (length bs ∷ bs ++ replicate (blockLimit - length bs) 0) (length cs ∷ cs ++ replicate (blockLimit - length cs) 0)
+    (omega (arith, filled-length bs short, filled-length cs most)) (omega (arith, filled-length cs most))
+    ∙ sym (all-put cs p long most)))
