@@ -2,7 +2,8 @@
  * Llinkhiro: the logic of a PROFIdrive 4.1 station with 16 axes. Farm k owns axis k.
  *
  * Two things are done with a station: a control cycle for one axis (llinkhiro_cycle) and a DP-V1 frame from one farm
- * (llinkhiro_frame). A third call makes it (llinkhiro_fresh). #include <llinkhiro.h>, and link with -lllinkhiro.
+ * (llinkhiro_frame; llinkhiro_exchange is a write and the fetch of its response in one call). Another call makes the station
+ * (llinkhiro_fresh). #include <llinkhiro.h>, and link with -lllinkhiro.
  *
  * MEMORY
  *
@@ -25,7 +26,7 @@
  *    2  the station's memory is not of llinkhiro_size() bytes, or the caller's own part of it is not well-formed
  *       (it was never made fresh, or was changed by other means than these calls)
  *    3  reply memory of fewer than 244 bytes
- *    4  frame of fewer than 4 bytes, or function byte neither 5E (read) nor 5F (write)
+ *    4  frame of fewer than 4 bytes, or function byte neither 5E (read) nor 5F (write); for llinkhiro_exchange, a read too
  *    5  slot is not 0                                                           reply code B2
  *    6  index is not 47                                                         B0
  *    7  length byte over 240, or not the number of bytes after it
@@ -36,7 +37,7 @@
  *   11  the block's axis is not the caller's                                    B6
  *   12  cycle flags above 3
  *
- * llinkhiro_fresh gives 0 and 2; llinkhiro_cycle 0, 1, 2 and 12; llinkhiro_frame 0 to 11.
+ * llinkhiro_fresh gives 0 and 2; llinkhiro_cycle 0, 1, 2 and 12; llinkhiro_frame 0 to 11; llinkhiro_exchange 0 to 8, 10, 11.
  */
 #ifndef LLINKHIRO_H
 #define LLINKHIRO_H
@@ -88,7 +89,7 @@ struct llinkhiro_cycled llinkhiro_cycle(uint8_t *station, size_t station_len, ui
                                         uint16_t stw1, int16_t nsoll, int16_t nist, uint16_t fault);
 
 /*
- * What a frame answers beside its reply.
+ * What llinkhiro_frame and llinkhiro_exchange answer beside the reply.
  *   length  bytes of the reply: the first `length` bytes of the reply memory were written, and no others
  *   stored  elements that a change stored; 0 for every other frame
  *   number  0, or the refusal
@@ -117,6 +118,21 @@ struct llinkhiro_framed {
  */
 struct llinkhiro_framed llinkhiro_frame(uint8_t *station, size_t station_len, uint32_t farm,
                                         const uint8_t *frame, size_t frame_len, uint8_t *reply, size_t reply_len);
+
+/*
+ * Send and fetch in one call: a write, and the fetch of its response. Farm, frame and reply are as for llinkhiro_frame.
+ *
+ * It is the same as two calls of llinkhiro_frame one after the other: the write, and 5E 00 2F F0 with the same reply memory.
+ * The reply is the fetch's: 5E 00 2F, the length of the response, and the response (8 to 244 bytes in all); `stored` is the
+ * write's. No response waits after it. The fetch of a write that was done is never refused.
+ * Where the write is refused, it is that write and nothing more: the same number and reply. So a response that waited before
+ * it is 8, and goes on waiting: it is fetched with llinkhiro_frame.
+ * A read, whatever follows its first byte, is 4: the reply is empty (length 0), and the reply memory is not touched.
+ *
+ * The bytes of the reply memory after the reply are as they were. Changes the part of that farm's axis and no other.
+ */
+struct llinkhiro_framed llinkhiro_exchange(uint8_t *station, size_t station_len, uint32_t farm,
+                                           const uint8_t *frame, size_t frame_len, uint8_t *reply, size_t reply_len);
 
 #ifdef __cplusplus
 }

@@ -3,7 +3,7 @@
 ghost use mathlib.Core.Path.{_≡_};
 ghost use Rattle.station.specs.Parts.{stationSize, freshNumber, freshStation};
 ghost use Rattle.station.specs.Isolation.{answer, after};
-ghost use Rattle.station.specs.Calls.{kinds, cycle, frame};
+ghost use Rattle.station.specs.Calls.{kinds, cycle, frame, exchange};
 ghost use Rattle.llinkhiro.specs.Host.{ofCycle, ofFrame, handed};
 use station::Cycled;
 use station::Framed;
@@ -55,4 +55,18 @@ pub extern "C" fn llinkhiro_frame(
     ensures { λ r. ⌜ now (station .exit) ≡ after kinds (frame farm (now (f .entry)) (now (reply .entry))) (now (station .entry)) ⌝ }
 {
     station::frame(station, farm, f, reply)
+}
+
+// A merged call of a farm: a write and the fetch of its response, answered in the reply memory.
+#[no_mangle]
+pub extern "C" fn llinkhiro_exchange(
+    station: &mut [u8],
+    farm: u32,
+    f: &[u8],
+    reply: &mut [u8],
+) -> Framed
+    ensures { λ r. ⌜ ofFrame r (now (reply .exit)) ≡ handed (answer kinds (exchange farm (now (f .entry)) (now (reply .entry))) (now (station .entry))) ⌝ }
+    ensures { λ r. ⌜ now (station .exit) ≡ after kinds (exchange farm (now (f .entry)) (now (reply .entry))) (now (station .entry)) ⌝ }
+{
+    station::exchange(station, farm, f, reply)
 }

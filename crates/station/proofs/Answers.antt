@@ -14,7 +14,7 @@ use Rattle.part.specs.Layout.{partSize}
 use Rattle.station.specs.Parts.{farms, stationSize, window, withWindow, partOf, withPart, stationRefusal}
 use Rattle.station.specs.Frame.{refusedReply}
 use Rattle.station.specs.Isolation.{Kinds, answer, after}
-use Rattle.station.specs.Calls.{frame, toFrame, refused}
+use Rattle.station.specs.Calls.{toFrame, refusedFrame}
 
 -- a farm or axis and a size that are not refused
 pub record Taken (k size : ℕ) : Type 0 where
@@ -60,12 +60,17 @@ pub lent : (k : ℕ) (s : List ℕ) → take ((k - 1) * partSize + partSize - (k
 unfolding window
 lent k s = rw (part-size k)
 
+-- and as it comes back
+pub back : (k : ℕ) (s ys : List ℕ) → putMid ((k - 1) * partSize) ((k - 1) * partSize + partSize - (k - 1) * partSize) s ys ≡ withPart k ys s
+unfolding withWindow
+back k s ys = rw (part-size k)
+
 -- numbers below 5 have an empty reply
 pub quiet : (f : List ℕ) (n : ℕ) → n < 5 → refusedReply f n ≡ []
 quiet f n h = rw (lt-ltb n 5 h)
 
-pub empty-refused : (k : ℕ) (f m : List ℕ) (n : ℕ) → n < 5 → toFrame (record { length = 0; stored = 0; number = n }) m ≡ refused (frame k f m) n
-empty-refused k f m n h = rw (quiet f n h, put-none m 0)
+pub empty-refused : (f m : List ℕ) (n : ℕ) → n < 5 → toFrame (record { length = 0; stored = 0; number = n }) m ≡ refusedFrame f m n
+empty-refused f m n h = rw (quiet f n h, put-none m 0)
 
 -- farm and size are refused by 1 and 2
 pub refusal-small : (k size : ℕ) → stationRefusal k size < 5

@@ -1,7 +1,7 @@
 -- Each law of specs/Laws.antt at work on calls that are written out, at both ends of its bounds: a law that is made weaker fails here.
 -- What a law concludes is written out too, and of each record that a law asks for one is built.
 use mathlib.Core.Path.{_≡_, refl, ap, _∙_}
-use mathlib.Core.Bool.{true}
+use mathlib.Core.Bool.{true, false}
 use mathlib.Core.List.{List, [], _∷_, _++_, map}
 use Prim.Native.Nat.{ℕ, _≤_}
 use native.Mathlib.Omega.{arith}
@@ -18,28 +18,31 @@ use Rattle.blocks.specs.Page.{RequestFits, requestBytes, ResponseFits, response
 use Rattle.drive.specs.Cycle.{cycleOf}
 use Rattle.catalogue.specs.Table.{rows, parameterBytes}
 use Rattle.catalogue.specs.Element.{putElement}
-use Rattle.part.specs.Layout.{partSize, waitingLength, waiting}
+use Rattle.part.specs.Layout.{partSize, waitingLength, waiting, withResponse}
 use Rattle.part.specs.Fresh.{freshPart}
 use Rattle.part.specs.Record.{driveOf}
 use Rattle.part.specs.WellFormed.{wellFormed}
 use Rattle.access.specs.Work.{worked, outcomeOf}
 use Rattle.access.proofs.Answers.{answer-short}
+use Rattle.station.specs.declared.Framed.{Framed}
 use Rattle.station.specs.Parts.{farms, stationSize, partOf, freshStation}
 use Rattle.station.specs.Frame.{frameRefusal, frameReply}
-use Rattle.station.specs.Cycle.{Sent, inputOf, cycleRefusal, cycleAnswer}
+use Rattle.station.specs.Cycle.{Sent, SentFits, inputOf, cycleRefusal, cycleAnswer}
 use Rattle.station.specs.Runs.{callsBy, answersTo, SameSeen, runAnswers, runEnd}
 use Rattle.station.specs.Isolation.{Isolated, answer, after, machine}
-use Rattle.station.specs.Calls.{Call, cycle, frame, toFrame, owner, kinds}
-use Rattle.station.specs.Worked.{marksFrame, fetchFrame, workedCalls, endedPart}
-use Rattle.station.specs.Laws.{numberIn, Refuses, WellFormedStation, SentFits, AtRest, replied, Exchanged}
-use Rattle.station.proofs.Sizes.{isolated-station, keeps-size, keeps-others}
+use Rattle.station.specs.Calls.{Call, cycle, frame, exchange, toFrame, numberIn, owner, kinds}
+use Rattle.station.specs.Worked.{marksFrame, fetchFrame, workedCalls, mergedCalls, endedPart}
+use Rattle.station.specs.Laws.{Refuses, WellFormedStation, AtRest, replied, Exchanged}
+use Rattle.station.proofs.Owes.{isolated-station, keeps-size, keeps-others}
 use Rattle.station.proofs.Cycles.{tells-what-it-did}
 use Rattle.station.proofs.Outcome.{block-numbered}
 use Rattle.station.proofs.Refusals.{numbered-by-table, is-refused, empty-reply, reply-stands, foreign-axis, unreadable-block}
 use Rattle.station.proofs.Stays.{fresh-parts, never-ill-formed}
 use Rattle.station.proofs.Sends.{waits-as-ruled, sends-waiting}
-use Rattle.station.proofs.Worked.{worked-by-hand}
-use Rattle.station.proofs.Exchange.{responds-as-ruled}
+use Rattle.station.proofs.Worked.{worked-by-hand, merged-by-hand}
+use Rattle.station.proofs.Responds.{responds-as-ruled, fetch-after-write}
+use Rattle.station.proofs.Merged.{in-turn, write-alone, merges-as-ruled}
+use Rattle.station.proofs.Past.{past-stays}
 
 -- the numbers at both ends of a cycle's words
 largest : Sent
@@ -67,6 +70,14 @@ unfolding Isolated SameSeen callsBy answersTo runAnswers runEnd
 undisturbed s t size size-t same f m g h =
     isolated-station 1 (lit≤ tt) (lit≤ tt) s t size size-t same (frame 2 g h ∷ frame 1 f m ∷ []) (frame 1 f m ∷ []) refl
 
+-- and neither does a merged call
+undisturbed-by-merged :
+    (s t : List ℕ) → length s ≡ stationSize → length t ≡ stationSize → partOf 1 s ≡ partOf 1 t → (f m g h : List ℕ)
+    → answer kinds (exchange 1 f m) (after kinds (exchange 2 g h) s) ∷ [] ≡ answer kinds (exchange 1 f m) t ∷ []
+unfolding Isolated SameSeen callsBy answersTo runAnswers runEnd
+undisturbed-by-merged s t size size-t same f m g h =
+    isolated-station 1 (lit≤ tt) (lit≤ tt) s t size size-t same (exchange 2 g h ∷ exchange 1 f m ∷ []) (exchange 1 f m ∷ []) refl .0
+
 -- KeepsSize: memory without a byte
 no-memory : (c : Call) → length (after kinds c []) ≡ 0
 no-memory c = keeps-size c []
@@ -89,9 +100,10 @@ module _ (s : List ℕ) (size : length s ≡ stationSize) where
   last-fresh : partOf 16 (freshStation s) ≡ freshPart
   last-fresh = fresh-parts s size 16 (lit≤ tt) (lit≤ tt)
 
-  -- NeverIllFormed: any frame of any farm, between cycles with the largest words
-  never-2 : (k : ℕ) (f m : List ℕ) → AllOf (λ a. numberIn a ≡ 2 → ⊥) (runAnswers (machine kinds) (cycle 16 largest ∷ frame k f m ∷ cycle k largest ∷ []) (freshStation s))
-  never-2 k f m = never-ill-formed (cycle 16 largest ∷ frame k f m ∷ cycle k largest ∷ []) s (fit, (tt, (fit, tt))) size .never2
+  -- NeverIllFormed: any frame and merged call of any farm, between cycles with the largest words
+  never-2 : (k : ℕ) (f m : List ℕ)
+      → AllOf (λ a. numberIn a ≡ 2 → ⊥) (runAnswers (machine kinds) (cycle 16 largest ∷ frame k f m ∷ exchange k f m ∷ cycle k largest ∷ []) (freshStation s))
+  never-2 k f m = never-ill-formed (cycle 16 largest ∷ frame k f m ∷ exchange k f m ∷ cycle k largest ∷ []) s (fit, (tt, (tt, (fit, tt)))) size .never2
 
   formed-end : (k : ℕ) (f m : List ℕ) → wellFormed 16 (partOf 16 (runEnd (machine kinds) (frame k f m ∷ []) (freshStation s))) ≡ true
   formed-end k f m = never-ill-formed (frame k f m ∷ []) s (tt, tt) size .ends .parts 16 (lit≤ tt) (lit≤ tt)
@@ -120,38 +132,54 @@ module _ (s : List ℕ) (size : length s ≡ stationSize) where
       × (partOf 1 end ≡ endedPart) × (partOf 2 end ≡ freshPart) × (partOf 16 end ≡ freshPart)
   by-hand = let w = worked-by-hand s size in (refl, w .answered, w .size, w .first, w .others 2 (lit≤ tt) (lit≤ tt), w .others 16 (lit≤ tt) (lit≤ tt))
 
+  -- MergedByHand: four merged calls
+  merged-by-hand-too : (length mergedCalls ≡ 4) × (runAnswers (machine kinds) (map (λ w. w .call) mergedCalls) (freshStation s) ≡ map (λ w. w .answer) mergedCalls)
+  merged-by-hand-too = (refl, merged-by-hand s size .0)
+
 -- Refused and NumberedByTable: an axis that there is not
 nobody : (i : Sent) (s : List ℕ) → Refuses (cycle 17 i) s
 nobody i s = is-refused (cycle 17 i) s (λ e. let n = numbered-by-table (cycle 17 i) s in omega arith)
 
--- EmptyReply: the least of its numbers and the largest
+-- EmptyReply: the least of its numbers and the largest, which a read in a merged call has too
 farm-0 : (f m s : List ℕ) → answer kinds (frame 0 f m) s ≡ toFrame (record { length = 0; stored = 0; number = 1 }) m
-farm-0 f m s = empty-reply 0 f m s 1 (numbered-by-table (frame 0 f m) s) (lit≤ tt) (lit≤ tt)
+farm-0 f m s = empty-reply false 0 f m s 1 (numbered-by-table (frame 0 f m) s) (lit≤ tt) (lit≤ tt)
 
-no-frame : (m s : List ℕ) → WellFormedStation s → 244 ≤ length m → answer kinds (frame 1 [] m) s ≡ toFrame (record { length = 0; stored = 0; number = 4 }) m
-no-frame m s w room =
-    empty-reply 1 [] m s 4
-    (numbered-by-table (frame 1 [] m) s
-    ∙ rw (eq-eqb (length s) stationSize (w .size), w .parts 1 (lit≤ tt) (lit≤ tt), le-ltb (length m) 244 room))
-    (lit≤ tt) (lit≤ tt)
+module _ (m s : List ℕ) (w : WellFormedStation s) (room : 244 ≤ length m) where
+  no-frame : answer kinds (frame 1 [] m) s ≡ toFrame (record { length = 0; stored = 0; number = 4 }) m
+  no-frame =
+      empty-reply false 1 [] m s 4
+      (numbered-by-table (frame 1 [] m) s
+      ∙ rw (eq-eqb (length s) stationSize (w .size), w .parts 1 (lit≤ tt) (lit≤ tt), le-ltb (length m) 244 room))
+      (lit≤ tt) (lit≤ tt)
+
+  merged-read : answer kinds (exchange 16 fetchFrame m) s ≡ toFrame (record { length = 0; stored = 0; number = 4 }) m
+  merged-read =
+      empty-reply true 16 fetchFrame m s 4
+      (numbered-by-table (exchange 16 fetchFrame m) s
+      ∙ rw (eq-eqb (length s) stationSize (w .size), w .parts 16 (lit≤ tt) (lit≤ tt), le-ltb (length m) 244 room))
+      (lit≤ tt) (lit≤ tt)
 
 -- ForeignAxis: farm 2 with the frame of farm 1, and farm 1 with a block of axis 2; UnreadableBlock: none, and one byte of it
 module _ (m s : List ℕ) where
   denied : Refuses (frame 2 marksFrame m) s
   unfolding numberAt
-  denied = foreign-axis 2 marksFrame m s refl (λ e. omega arith)
+  denied = foreign-axis false 2 marksFrame m s refl (λ e. omega arith)
+
+  denied-merged : Refuses (exchange 2 marksFrame m) s
+  unfolding numberAt
+  denied-merged = foreign-axis true 2 marksFrame m s refl (λ e. omega arith)
 
   denied-too : Refuses (frame 1 (0x5F ∷ 0 ∷ 0x2F ∷ 4 ∷ 7 ∷ 1 ∷ 2 ∷ 0 ∷ []) m) s
   unfolding numberAt
-  denied-too = foreign-axis 1 (0x5F ∷ 0 ∷ 0x2F ∷ 4 ∷ 7 ∷ 1 ∷ 2 ∷ 0 ∷ []) m s refl (λ e. omega arith)
+  denied-too = foreign-axis false 1 (0x5F ∷ 0 ∷ 0x2F ∷ 4 ∷ 7 ∷ 1 ∷ 2 ∷ 0 ∷ []) m s refl (λ e. omega arith)
 
   blockless : (k : ℕ) → Refuses (frame k (0x5F ∷ 0 ∷ 0x2F ∷ 0 ∷ []) m) s
   unfolding readable request
-  blockless k = unreadable-block k (0x5F ∷ 0 ∷ 0x2F ∷ 0 ∷ []) m s refl refl
+  blockless k = unreadable-block false k (0x5F ∷ 0 ∷ 0x2F ∷ 0 ∷ []) m s refl refl
 
-  one-byte : (k : ℕ) → Refuses (frame k (0x5F ∷ 0 ∷ 0x2F ∷ 1 ∷ 7 ∷ []) m) s
+  one-byte : (k : ℕ) → Refuses (exchange k (0x5F ∷ 0 ∷ 0x2F ∷ 1 ∷ 7 ∷ []) m) s
   unfolding readable request
-  one-byte k = unreadable-block k (0x5F ∷ 0 ∷ 0x2F ∷ 1 ∷ 7 ∷ []) m s refl refl
+  one-byte k = unreadable-block true k (0x5F ∷ 0 ∷ 0x2F ∷ 1 ∷ 7 ∷ []) m s refl refl
 
   -- what a refusal is
   denied-kept : (after kinds (frame 2 marksFrame m) s ≡ s) × (numberIn (answer kinds (frame 2 marksFrame m) s) ≡ 0 → ⊥)
@@ -191,10 +219,21 @@ module _ (r : Request) (fits : RequestFits r) (short : length (requestBytes r) �
   least : AtRest 1 s → r .axis ≡ 1 → Exchanged 1 r s m [] (length (responseBytes (worked r (partOf 1 s) .response))) w
   least rest mine = responds-as-ruled 1 r s m [] _ w rest fits short mine room tt (omega arith) (answer-short r (partOf 1 s) fits) wide
 
-  most : (f g : List ℕ) → AtRest 16 s → r .axis ≡ 16 → Exchanged 16 r s m (cycle 16 largest ∷ frame 15 f g ∷ []) 240 w
-  most f g rest mine =
-      responds-as-ruled 16 r s m (cycle 16 largest ∷ frame 15 f g ∷ []) 240 w rest fits short mine room (fit, ((λ e. omega arith), tt))
+  -- Between: a cycle, a write and a merged call of the farm's own, and a read of another's
+  most : (f g h : List ℕ) → AtRest 16 s → r .axis ≡ 16
+      → Exchanged 16 r s m (cycle 16 largest ∷ frame 16 marksFrame g ∷ exchange 16 f h ∷ frame 15 fetchFrame g ∷ []) 240 w
+  most f g h rest mine =
+      responds-as-ruled 16 r s m (cycle 16 largest ∷ frame 16 marksFrame g ∷ exchange 16 f h ∷ frame 15 fetchFrame g ∷ []) 240 w rest fits short mine room
+      (record { fits = fit; stays = λ e. refl }, (record { fits = tt; stays = λ e. refl }, (record { fits = tt; stays = λ e. refl }, (record { fits = tt; stays = λ e. absurd (omega arith) }, tt))))
       (answer-short r (partOf 16 s) fits) (lit≤ tt) wide
+
+  -- MergesAsRuled: what a merged call answers, and that nothing waits then
+  merged : AtRest 16 s → r .axis ≡ 16
+      → (answer kinds (exchange 16 (0x5F ∷ 0 ∷ 0x2F ∷ length (requestBytes r) ∷ requestBytes r) m) s
+      ≡ replied (0x5E ∷ 0 ∷ 0x2F ∷ length (responseBytes (worked r (partOf 16 s) .response)) ∷ responseBytes (worked r (partOf 16 s) .response)) (worked r (partOf 16 s) .stored) m)
+      × (waitingLength (partOf 16 (after kinds (exchange 16 (0x5F ∷ 0 ∷ 0x2F ∷ length (requestBytes r) ∷ requestBytes r) m) s)) ≡ 0)
+      × (partOf 16 (after kinds (exchange 16 (0x5F ∷ 0 ∷ 0x2F ∷ length (requestBytes r) ∷ requestBytes r) m) s) ≡ withResponse [] (worked r (partOf 16 s) .part))
+  merged rest mine = let x = merges-as-ruled 16 r s m rest fits short mine room in (x .answered, x .idle, x .left)
 
   -- and written out: what is acknowledged, what is fetched, and that nothing waits then
   module _ (rest : AtRest 1 s) (mine : r .axis ≡ 1) where
@@ -215,6 +254,26 @@ module _ (r : Request) (fits : RequestFits r) (short : length (requestBytes r) �
     exchanged =
         let x = responds-as-ruled 1 r s m [] 240 w rest fits short mine room tt (answer-short r (partOf 1 s) fits) (lit≤ tt) wide in
         (x .acknowledged, x .answered, x .idle, x .fits, x .short)
+
+-- FetchFollows, InTurn, WriteAlone and PastStays: the worked write, on any station and with any reply memory
+module _ (m s : List ℕ) where
+  fetch-done : (w : List ℕ) → 244 ≤ length w → numberIn (answer kinds (frame 1 marksFrame m) s) ≡ 0
+      → numberIn (answer kinds (frame 1 fetchFrame w) (after kinds (exchange 1 marksFrame w) (after kinds (frame 1 marksFrame m) s))) ≡ 0
+  unfolding runEnd
+  fetch-done w wide done = fetch-after-write 1 marksFrame m s (exchange 1 marksFrame w ∷ []) w refl done (record { fits = tt; stays = λ e. refl }, tt) wide
+
+  two-calls : (write fetch : Framed) (m′ m″ : List ℕ) → answer kinds (frame 1 marksFrame m) s ≡ toFrame write m′ → write .number ≡ 0
+      → answer kinds (frame 1 fetchFrame m′) (after kinds (frame 1 marksFrame m) s) ≡ toFrame fetch m″
+      → (answer kinds (exchange 1 marksFrame m) s ≡ toFrame (record { length = fetch .length; stored = write .stored; number = 0 }) m″)
+      × (after kinds (exchange 1 marksFrame m) s ≡ after kinds (frame 1 fetchFrame m′) (after kinds (frame 1 marksFrame m) s))
+  two-calls write fetch m′ m″ first done second = in-turn 1 marksFrame m s write fetch m′ m″ refl first done second
+
+  one-call : (numberIn (answer kinds (frame 2 marksFrame m) s) ≡ 0 → ⊥)
+      → (answer kinds (exchange 2 marksFrame m) s ≡ answer kinds (frame 2 marksFrame m) s) × (after kinds (exchange 2 marksFrame m) s ≡ after kinds (frame 2 marksFrame m) s)
+  one-call refused = write-alone 2 marksFrame m s refl refused
+
+  beyond : (a : Framed) (w : List ℕ) → answer kinds (exchange 1 marksFrame m) s ≡ toFrame a w → (a .length ≤ 244) × (length w ≡ length m) × (drop (a .length) w ≡ drop (a .length) m)
+  beyond a w e = past-stays true 1 marksFrame m s a w e
 
 -- TellsWhatItDid: both, of the last axis
 module _ (i : Sent) (p : List ℕ) (fine : cycleRefusal 16 i p ≡ 0) where

@@ -1,13 +1,13 @@
--- A request that is written by its own farm is answered, when it is fetched, by the response that the rules give, whatever came between.
+-- A request that is written by its own farm is answered, when it is fetched, by the response that the rules give, whatever came between;
+-- and the fetch with F0 after a write that was done is never refused.
 use mathlib.Core.Path.{_≡_, refl, sym, ap, subst, _∙_}
 use mathlib.Core.Bool.{Bool, true, false}
 use mathlib.Core.List.{List, [], _∷_, append-nil}
 use Prim.Native.Nat.{ℕ, _≤_}
 use native.Mathlib.Omega.{arith}
-use lib.Dec.{eqb}
-use lib.ListN.{length, drop, length-drop}
-use lib.Seq.{length-take-le}
-use borrow.Author.Tests.{eq-eqb, eqb-true, eqb-false, ne-eqb, le-leb, le-ltb}
+use lib.Dec.{eqb, lit≤}
+use lib.ListN.{length, take}
+use borrow.Author.Tests.{eqb-true, eqb-false}
 use Rattle.codes.specs.Code.{got, AllOf, readable}
 use Rattle.blocks.specs.Block.{blockLimit}
 use Rattle.blocks.specs.Request.{Request, request}
@@ -18,50 +18,31 @@ use Rattle.blocks.proofs.Sound.{request-sound}
 use Rattle.blocks.proofs.Request.{request-header}
 use Rattle.blocks.proofs.Page.{request-valid, request-bytes, response-bytes}
 use Rattle.blocks.proofs.Demand.{requests}
-use Rattle.part.specs.Layout.{responseAt, responseRoom, waitingLength, waiting, withResponse}
+use Rattle.part.specs.Layout.{responseRoom, waitingLength, waiting, withResponse}
 use Rattle.part.specs.WellFormed.{wellFormed}
 use Rattle.part.proofs.Laws.{waiting-length-is}
 use Rattle.access.specs.Work.{worked, Outcome, outcomeOf}
 use Rattle.access.proofs.Answers.{answer-fits, answer-short}
 use Rattle.station.specs.Parts.{farms, stationSize, partOf}
-use Rattle.station.specs.Frame.{lengthByte, blockOf, isWrite, frameRefusal, frameAnswer, frameReply, framePart}
+use Rattle.station.specs.Frame.{lengthByte, blockOf, isWrite, fetchOf, frameRefusal, frameAnswer, frameReply, framePart}
+use Rattle.station.specs.Exchange.{fetchAll}
 use Rattle.station.specs.Runs.{runEnd}
-use Rattle.station.specs.Isolation.{after, machine}
-use Rattle.station.specs.Calls.{Call, cycle, frame, toFrame, kinds, owner}
-use Rattle.station.specs.Laws.{writeOf, fetchOf, Between, replied, RespondsAsRuled}
+use Rattle.station.specs.Isolation.{answer, after, machine}
+use Rattle.station.specs.Calls.{Call, frame, toFrame, numberIn, kindOf, owner, kinds}
+use Rattle.station.specs.Laws.{writeOf, Between, replied, RespondsAsRuled, FetchFollows}
 use Rattle.station.proofs.Isolation.{Right, took-answer, fine, length-after, own, other}
-use Rattle.station.proofs.Sizes.{sized}
+use Rattle.station.proofs.Passes.{waits-all, write-passes, fetch-passes, left-formed, something-waits}
+use Rattle.station.proofs.Owes.{owes, sized}
 use Rattle.station.proofs.Frames.{formed}
-use Rattle.station.proofs.Refusals.{reply-stands}
-use Rattle.station.proofs.Stays.{part-stays}
-use Rattle.station.proofs.Sends.{taken-is, waits-as-ruled, cycle-keeps}
-
--- in a well-formed part as many bytes wait as its length says
-waits-all : (k : ℕ) (p : List ℕ) → wellFormed k p ≡ true → waitingLength p ≡ length (waiting p)
-waits-all k p w =
-    let f = formed k p w in
-    let room : length (responseRoom p) ≡ blockLimit = length-take-le blockLimit (drop responseAt p) (rw length-drop (omega (arith, f .0))) in
-    sym (length-take-le (waitingLength p) (responseRoom p) (omega (arith, f .1, room)))
-
--- a write of a readable block of the farm's own axis, and a fetch of what waits, are refused by no number
-module _ (k : ℕ) (m p : List ℕ) (w : wellFormed k p ≡ true) (room : 244 ≤ length m) where
-  write-passes :
-      (b : List ℕ) → waitingLength p ≡ 0 → length b ≤ blockLimit → readable blockLimit request b ≡ true → headerOf b .axis ≡ k
-      → frameRefusal k (0x5F ∷ 0 ∷ 0x2F ∷ length b ∷ b) (length m) p ≡ 0
-  unfolding frameRefusal
-  write-passes b idle short reads mine =
-      rw (w, le-ltb (length m) 244 room, le-ltb (length (0x5F ∷ 0 ∷ 0x2F ∷ length b ∷ b)) 4 (omega arith), le-leb (length b) blockLimit short, eq-eqb (length b) (length b) refl, idle, reads, eq-eqb (headerOf b .axis) k mine)
-
-  fetch-passes : (n : ℕ) → (waitingLength p ≡ 0 → ⊥) → waitingLength p ≤ n → n ≤ blockLimit → frameRefusal k (fetchOf n) (length m) p ≡ 0
-  unfolding frameRefusal
-  fetch-passes n some enough short = rw (w, le-ltb (length m) 244 room, le-leb n blockLimit short, ne-eqb (waitingLength p) 0 some, le-ltb n (waitingLength p) enough)
+use Rattle.station.proofs.Refusals.{was-done, reply-stands}
+use Rattle.station.proofs.Sends.{taken-is, waits-as-ruled}
 
 -- a request of the page, as its block
 module _ (r : Request) (fits : RequestFits r) (short : length (requestBytes r) ≤ blockLimit) where
-  reads : readable blockLimit request (requestBytes r) ≡ true
+  pub reads : readable blockLimit request (requestBytes r) ≡ true
   reads = requests .exact (requestBytes r) .1 (short, (r, fits, refl))
 
-  reads-back : request .read (requestBytes r) ≡ got r []
+  pub reads-back : request .read (requestBytes r) ≡ got r []
   reads-back =
       ap (request .read) (sym (append-nil (request .write r) ∙ request-bytes r)) ∙ request-sound .back r [] (request-valid r .1 fits)
 
@@ -93,7 +74,7 @@ record Waits (k : ℕ) (bs s : List ℕ) : Type 0 where
   formed : wellFormed k (partOf k s) ≡ true
   waits : waiting (partOf k s) ≡ bs
 
-module _ (k : ℕ) (low : 1 ≤ k) (high : k ≤ farms) (bs : List ℕ) where
+module _ (k : ℕ) (low : 1 ≤ k) (high : k ≤ farms) (bs : List ℕ) (some : bs ≡ [] → ⊥) where
   at-home : (s : List ℕ) → length s ≡ stationSize → Right k (length s)
   at-home s size = record { low = low; high = high; size = size }
 
@@ -106,19 +87,27 @@ module _ (k : ℕ) (low : 1 ≤ k) (high : k ≤ farms) (bs : List ℕ) where
         waits = ap waiting same ∙ h .waits;
       }
 
+  -- then its length is not 0
+  full : (p : List ℕ) → waiting p ≡ bs → waitingLength p ≡ 0 → ⊥
+  full p same none = some (sym same ∙ ap (λ (n : ℕ). take n (responseRoom p)) none)
+
   one-call : (c : Call) (s : List ℕ) → Between k c → Waits k bs s → Waits k bs (after kinds c s)
-  one-call (frame farm f m) s d h = elsewhere (frame farm f m) s h d
-  one-call (cycle axis i) s fits h = go (eqb axis k) refl
+  one-call c s b h = go (eqb (owner c) k) refl
     where
-      go : (b : Bool) → eqb axis k ≡ b → Waits k bs (after kinds (cycle axis i) s)
-      go false e = elsewhere (cycle axis i) s h (eqb-false axis k e)
-      go true e = subst (λ (j : ℕ). Waits k bs (after kinds (cycle j i) s)) (sym (eqb-true axis k e))
-          (let mine = own kinds sized (cycle k i) s (at-home s (h .size)) in
+      go : (t : Bool) → eqb (owner c) k ≡ t → Waits k bs (after kinds c s)
+      go false e = elsewhere c s h (eqb-false (owner c) k e)
+      go true e =
+          let same : owner c ≡ k = eqb-true (owner c) k e in
+          let here : Right (owner c) (length s) = subst (λ (j : ℕ). Right j (length s)) (sym same) (at-home s (h .size)) in
+          let mine : partOf k (after kinds c s) ≡ kindOf c .leaves (partOf k s) =
+          subst (λ (j : ℕ). partOf j (after kinds c s) ≡ kindOf c .leaves (partOf j s)) same (own kinds sized c s here) in
           record {
-            size = length-after kinds sized (cycle k i) s ∙ h .size;
-            formed = ap (wellFormed k) mine ∙ part-stays (cycle k i) (partOf k s) fits (h .formed);
-            waits = ap waiting mine ∙ (cycle-keeps k i (partOf k s) ∙ h .waits);
-          })
+            size = length-after kinds sized c s ∙ h .size;
+            formed =
+                ap (wellFormed k) mine
+                ∙ subst (λ (j : ℕ). wellFormed j (partOf j s) ≡ true → wellFormed j (kindOf c .leaves (partOf j s)) ≡ true) same (owes c .formed (partOf (owner c) s) (b .fits)) (h .formed);
+            waits = ap waiting mine ∙ (owes c .waits (partOf k s) (b .stays same) (full (partOf k s) (h .waits)) ∙ h .waits);
+          }
 
   many-calls : (cs : List Call) (s : List ℕ) → AllOf (Between k) cs → Waits k bs s → Waits k bs (runEnd (machine kinds) cs s)
   unfolding runEnd
@@ -140,16 +129,17 @@ responds-as-ruled k r s m between n w rest fits short mine room calls enough mos
     let waits : Waits k bs (after kinds write s) =
     record {
       size = length-after kinds sized write s ∙ rest .size;
-      formed = ap (wellFormed k) left ∙ part-stays write p tt (rest .formed);
+      formed = ap (wellFormed k) left ∙ owes write .formed p tt (rest .formed);
       waits = ap waiting (left ∙ first .1)
           ∙ (waits-as-ruled k (requestBytes r) p r (formed k p (rest .formed) .0) bytes back mine .0 ∙ response-bytes (worked r p .response));
     } in
     let then = runEnd (machine kinds) between (after kinds write s) in
-    let still = many-calls k (rest .low) (rest .high) bs between (after kinds write s) calls waits in
+    let some : bs ≡ [] → ⊥ = λ e. let none = ap length e in omega arith in
+    let still = many-calls k (rest .low) (rest .high) bs some between (after kinds write s) calls waits in
     let q : List ℕ = partOf k then in
-    let there : Right k (length then) = at-home k (rest .low) (rest .high) bs then (still .size) in
+    let there : Right k (length then) = at-home k (rest .low) (rest .high) bs some then (still .size) in
     let long : waitingLength q ≡ length bs = waits-all k q (still .formed) ∙ ap length (still .waits) in
-    let sent = fetch-passes k w q (still .formed) wide n (λ z. omega (arith, z, long)) (omega (arith, long)) most in
+    let sent = fetch-passes k w q (still .formed) wide n (full k (rest .low) (rest .high) bs some q (still .waits)) (omega (arith, long)) most in
     let second = fetched k (fetchOf n) w q sent refl bs long (still .waits) in
     record {
       fits = answer-fits r p fits;
@@ -162,3 +152,22 @@ responds-as-ruled k r s m between n w rest fits short mine room calls enough mos
           ap waitingLength (own kinds sized (frame k (fetchOf n) w) then there ∙ second .1)
           ∙ waiting-length-is [] q (formed k q (still .formed) .0) (omega arith);
     }
+
+pub fetch-after-write : FetchFollows
+unfolding frameAnswer
+fetch-after-write k f m s between w is z calls wide =
+    let d = was-done (frame k f m) s z in
+    let p : List ℕ = partOf k s in
+    let write = frame k f m in
+    let left = own kinds sized write s (d .0) in
+    let well = left-formed k f m p (d .1) is in
+    let bs : List ℕ = waiting (framePart k f m p) in
+    let some : bs ≡ [] → ⊥ = λ e. something-waits k f m p (d .1) is (waits-all k (framePart k f m p) well ∙ ap length e) in
+    let waits : Waits k bs (after kinds write s) =
+    record { size = length-after kinds sized write s ∙ d .0 .size; formed = ap (wellFormed k) left ∙ well; waits = ap waiting left } in
+    let then = runEnd (machine kinds) between (after kinds write s) in
+    let still = many-calls k (d .0 .low) (d .0 .high) bs some between (after kinds write s) calls waits in
+    let q : List ℕ = partOf k then in
+    let there : Right k (length then) = at-home k (d .0 .low) (d .0 .high) bs some then (still .size) in
+    ap numberIn (took-answer kinds (frame k fetchAll w) then (fine there))
+    ∙ fetch-passes k w q (still .formed) wide 0xF0 (full k (d .0 .low) (d .0 .high) bs some q (still .waits)) (formed k q (still .formed) .1) (lit≤ tt)

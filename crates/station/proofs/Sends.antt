@@ -1,6 +1,6 @@
 -- What waits after a block is worked is the response that the rules give, and what is sent is what waits.
 use mathlib.Core.Path.{_≡_, refl, sym, _∙_, ap}
-use mathlib.Core.Bool.{Bool, true, false, cond, not, _&&_, _||_, and-eq-true-iff}
+use mathlib.Core.Bool.{Bool, true, false, not, _&&_, _||_, and-eq-true-iff}
 use mathlib.Core.List.{List, []}
 use Prim.Native.Nat.{ℕ, _≤_}
 use lib.Dec.{eqb, leb}
@@ -14,19 +14,16 @@ use Rattle.blocks.proofs.Sound.{request-sound}
 use Rattle.blocks.proofs.Page.{request-valid}
 use Rattle.blocks.proofs.Demand.{responses}
 use Rattle.blocks.specs.Place.{headerOf}
-use Rattle.drive.specs.Cycle.{cycleOf}
 use Rattle.part.specs.Layout.{waitingLength, waiting, withResponse}
-use Rattle.part.specs.Record.{driveOf, putDrive}
 use Rattle.part.specs.WellFormed.{waitingFits}
 use Rattle.part.proofs.Rule.{form-of}
-use Rattle.part.proofs.Laws.{waiting-is-given, cycle-keeps-waiting}
+use Rattle.part.proofs.Laws.{waiting-is-given}
 use Rattle.access.specs.Work.{worked, Outcome, outcomeOf}
 use Rattle.access.proofs.Answers.{answer-readable}
 use Rattle.access.proofs.Keeps.{only-asked-changes}
 use Rattle.station.specs.Frame.{isWrite, isRead, frameReply}
-use Rattle.station.specs.Cycle.{inputOf, cycleRefusal, cyclePart}
 use Rattle.station.specs.Inner.{early}
-use Rattle.station.specs.Laws.{WaitsAsRuled, CycleKeepsWaiting, SendsWaiting}
+use Rattle.station.specs.Laws.{WaitsAsRuled, SendsWaiting}
 use Rattle.station.proofs.Judged.{passes}
 
 -- a readable block of the axis itself is worked
@@ -44,14 +41,6 @@ waits-as-ruled k s p r h a e x =
     let short : length bs ≤ blockLimit = responses .exact bs .0 good .0 in
     let is : waiting (outcomeOf k s p .part) ≡ bs = ap (λ (o : Outcome). waiting (o .part)) (taken-is k s p r a e x) ∙ waiting-is-given bs (worked r p .part) (only-asked-changes r p fits .size ∙ h) short in
     (is, ap (readable blockLimit response) is ∙ good)
-
-pub cycle-keeps : CycleKeepsWaiting
-unfolding cyclePart
-cycle-keeps k i p = go (eqb (cycleRefusal k i p) 0)
-  where
-    go : (b : Bool) → waiting (cond b (putDrive (cycleOf (driveOf p) (inputOf i p) .drive) p) p) ≡ waiting p
-    go true = cycle-keeps-waiting p (inputOf i p)
-    go false = refl
 
 -- a read in its turn: something waits
 waits : (write reads none : Bool) → write ≡ false → write || reads ≡ true → (write && not none || reads && none) ≡ false → none ≡ false

@@ -56,6 +56,16 @@ module _ (a n : ℕ) (ys s : List ℕ) (h : a + n ≤ length s) (l : length ys �
   unfolding window withWindow
   window-same = ap (take n) (drop-at (take a s) (ys ++ drop n (drop a s)) a front) ∙ take-at ys (drop n (drop a s)) n l
 
+  -- what is put there again is all that is put
+  pub with-again : (zs : List ℕ) → withWindow a n zs (withWindow a n ys s) ≡ withWindow a n zs s
+  unfolding withWindow
+  with-again zs =
+      let t = take a s ++ (ys ++ drop n (drop a s)) in
+      let first : take a t ≡ take a s = take-at (take a s) (ys ++ drop n (drop a s)) a front in
+      let rest : drop n (drop a t) ≡ drop n (drop a s) =
+      ap (drop n) (drop-at (take a s) (ys ++ drop n (drop a s)) a front) ∙ drop-at ys (drop n (drop a s)) n l in
+      rw (first, rest)
+
   -- a window whose every place is as it was
   kept : (b m : ℕ) → b + m ≤ length s → ((i : ℕ) → i < m → getD (withWindow a n ys s) (b + i) 0 ≡ getD s (b + i) 0)
       → window b m (withWindow a n ys s) ≡ window b m s

@@ -25,14 +25,15 @@ use Rattle.access.specs.Change.{changeOne}
 use Rattle.access.specs.Work.{worked, outcomeOf}
 use Rattle.station.specs.Parts.{farms, stationSize, partOf, withPart, freshParts, window, withWindow, stationRefusal}
 use Rattle.station.specs.Frame.{frameRefusal, frameAnswer, frameReply, framePart}
+use Rattle.station.specs.Exchange.{exchangeDone}
 use Rattle.station.specs.Cycle.{cycleRefusal, cycleAnswer, cyclePart}
 use Rattle.station.specs.Runs.{runAnswers, runEnd}
 use Rattle.station.specs.Isolation.{answer, after, machine}
 use Rattle.station.specs.Calls.{Call, kinds}
-use Rattle.station.specs.Worked.{workedCalls, drivenPart, endedPart, WorkedByHand}
+use Rattle.station.specs.Worked.{workedCalls, mergedCalls, drivenPart, endedPart, WorkedByHand, MergedByHand}
 use Rattle.station.proofs.Isolation.{ends}
 use Rattle.station.proofs.Windows.{length-with, window-same, window-after}
-use Rattle.station.proofs.Sizes.{drive-length}
+use Rattle.station.proofs.CycleOwes.{drive-length}
 use Rattle.station.proofs.Stays.{parts-length, fresh-at, made}
 
 abbrev calls : List Call
@@ -73,3 +74,18 @@ worked-by-hand s h =
           ((k - 1) * partSize) partSize (ends 1 (k - 1) partSize (lit≤ tt) (omega arith)) (ends-within k (omega arith) high)
           ∙ fresh-at (k - 1) farms (omega arith));
     }
+
+abbrev merged : List Call
+merged = map (λ w. w .call) mergedCalls
+
+merged-computed : runAnswers (machine kinds) merged (freshParts farms) ≡ map (λ w. w .answer) mergedCalls
+unfolding readable numberAt put formatSize valueSize changeBlockFits responseBlockFits valuesOf valuesSize block address requestBlocks request responseBlocks hasError errorsFit response wordOf wordUsed setpointUsed acknowledges afterAck afterCode stateAfter effectiveOf nearOf fastOf statusOf entersS4 cycleOf rows parameterBytes findOf offsetOf inside elementOf putElement withResponse stateOf driveOf putDrive freshPart limitsFit fixedFit waitingFits unusedFit wellFormed checked readBlock changeOne worked outcomeOf window withWindow stationRefusal frameRefusal frameAnswer frameReply framePart cycleRefusal cycleAnswer cyclePart exchangeDone runAnswers answer after
+merged-computed = refl
+
+merged-end : partOf 1 (runEnd (machine kinds) merged (freshParts farms)) ≡ put freshPart (offsetOf 30001) (0x03 ∷ 0xE8 ∷ [])
+unfolding readable numberAt put formatSize valueSize changeBlockFits responseBlockFits valuesOf valuesSize block address requestBlocks request responseBlocks hasError errorsFit response wordOf wordUsed setpointUsed acknowledges afterAck afterCode stateAfter effectiveOf nearOf fastOf statusOf entersS4 cycleOf rows parameterBytes findOf offsetOf inside elementOf putElement withResponse stateOf driveOf putDrive freshPart limitsFit fixedFit waitingFits unusedFit wellFormed checked readBlock changeOne worked outcomeOf window withWindow stationRefusal frameRefusal frameAnswer frameReply framePart cycleRefusal cycleAnswer cyclePart exchangeDone runEnd answer after
+merged-end = refl
+
+pub merged-by-hand : MergedByHand
+merged-by-hand s h =
+    (ap (runAnswers (machine kinds) merged) (made s h) ∙ merged-computed, ap (λ (l : List ℕ). partOf 1 (runEnd (machine kinds) merged l)) (made s h) ∙ merged-end)

@@ -1,9 +1,10 @@
 -- Document 01, "Control cycle" on the part of its axis, and "Cycles use 1, 2 and 12; a refused cycle answers its number and zeros."
 use mathlib.Core.Bool.{false, cond, not}
 use mathlib.Core.List.{List}
-use Prim.Native.Nat.{ℕ}
+use Prim.Native.Nat.{ℕ, _<_, _^_}
 use lib.Dec.{eqb, ltb}
 use lib.IntN.{ℤ, pos}
+use lib.Signed.{mag}
 use Rattle.codes.specs.Number.{numberAt}
 use Rattle.drive.specs.declared.Input.{Input}
 use Rattle.drive.specs.declared.Output.{Output}
@@ -20,6 +21,14 @@ pub record Sent : Type 0 where
   pub nsoll : ℤ
   pub nist : ℤ
   pub fault : ℕ
+
+-- The words of a cycle are numbers of 16 bits, as the call has them; `mag` of a negative number is one less than its size, so that
+-- -32768 is among them.
+pub record SentFits (i : Sent) : Type 0 where
+  pub stw1 : i .stw1 < 2 ^ 16
+  pub nsoll : mag (i .nsoll) < 2 ^ 15
+  pub nist : mag (i .nist) < 2 ^ 15
+  pub fault : i .fault < 2 ^ 16
 
 -- with PNU 10111, 30002 and 30003 of the part
 abbrev pub inputOf : Sent → List ℕ → Input

@@ -36,6 +36,10 @@ isWrite f = eqb (function f) 0x5F
 abbrev pub isRead : List ℕ → Bool
 isRead f = eqb (function f) 0x5E
 
+-- the frame that fetches at most n bytes
+abbrev pub fetchOf : ℕ → List ℕ
+fetchOf n = 0x5E ∷ 0 ∷ 0x2F ∷ n ∷ []
+
 -- "not the bytes that follow (a read has none after it)"
 abbrev pub lengthFits : List ℕ → Bool
 lengthFits f = leb (lengthByte f) blockLimit && eqb (length (blockOf f)) (cond (isWrite f) (lengthByte f) 0)

@@ -1,11 +1,10 @@
--- What callers may cite of every call on a station in place of its text: from document 01, "Frames and refusal numbers", and demands
--- 1 and 2. Each is a statement here and a proof in proofs/.
+-- What callers may cite of every call on a station in place of its text: from document 01, "Frames and refusal numbers", document 02, R-3,
+-- and demands 1 to 3. Each is a statement here and a proof in proofs/.
 use mathlib.Core.Path.{_≡_}
-use mathlib.Core.Bool.{true, false, cond, not, _&&_, _||_}
+use mathlib.Core.Bool.{Bool, true, false, cond, not, _&&_, _||_}
 use mathlib.Core.List.{List, [], _∷_, _++_}
-use Prim.Native.Nat.{ℕ, _≤_, _<_, _^_}
+use Prim.Native.Nat.{ℕ, _≤_}
 use lib.Dec.{eqb, leb}
-use lib.Signed.{mag}
 use lib.ListN.{length, drop}
 use Rattle.codes.specs.Code.{got, AllOf, readable}
 use Rattle.codes.specs.Number.{put}
@@ -15,17 +14,19 @@ use Rattle.blocks.specs.Response.{Response, response}
 use Rattle.blocks.specs.Page.{RequestFits, requestBytes, ResponseFits, responseBytes}
 use Rattle.blocks.specs.Place.{headerOf}
 use Rattle.drive.specs.Cycle.{cycleOf}
-use Rattle.part.specs.Layout.{partSize, waitingLength, waiting}
+use Rattle.part.specs.Layout.{partSize, waitingLength, waiting, withResponse}
 use Rattle.part.specs.Record.{driveOf}
 use Rattle.access.specs.Work.{worked, outcomeOf}
 use Rattle.part.specs.Fresh.{freshPart}
 use Rattle.part.specs.WellFormed.{wellFormed}
 use Rattle.station.specs.Parts.{farms, stationSize, partOf, freshStation}
-use Rattle.station.specs.Frame.{isWrite, blockOf, frameTests, frameRefusal, replyOf, frameReply}
-use Rattle.station.specs.Cycle.{Sent, inputOf, cycleTests, cycleRefusal, cycleAnswer, cyclePart}
+use Rattle.station.specs.declared.Framed.{Framed}
+use Rattle.station.specs.Frame.{isWrite, isRead, blockOf, fetchOf, frameRefusal, replyOf, frameReply}
+use Rattle.station.specs.Exchange.{fetchAll}
+use Rattle.station.specs.Cycle.{Sent, inputOf, cycleRefusal, cycleAnswer, cyclePart}
 use Rattle.station.specs.Runs.{runAnswers, runEnd}
 use Rattle.station.specs.Isolation.{Isolated, answer, after, machine}
-use Rattle.station.specs.Calls.{Call, cycle, frame, Answer, toCycle, toFrame, owner, refused, kinds}
+use Rattle.station.specs.Calls.{Call, frame, exchange, frameBy, Answer, toFrame, numberIn, kindOf, owner, kinds}
 
 -- Demand 2 for the calls of today
 abbrev pub IsolatedStation : Type 0
@@ -40,22 +41,13 @@ KeepsOthers =
     (c : Call) (s : List ℕ) → length s ≡ stationSize → (k : ℕ) → 1 ≤ k → k ≤ farms → (owner c ≡ k → ⊥)
     → partOf k (after kinds c s) ≡ partOf k s
 
--- the number that an answer gives; 0 where the call was done
-abbrev pub numberIn : Answer → ℕ
-numberIn (toCycle a) = a .told .number
-numberIn (toFrame a m) = a .number
-
 -- Document 01's table of refusal numbers, for any call on a station: the first that applies, or 0
-abbrev pub laterTests : Call → List ℕ → ℕ
-laterTests (cycle axis i) p = cycleTests i
-laterTests (frame farm f m) p = frameTests farm f (length m) p
-
 abbrev pub tableNumber : Call → List ℕ → ℕ
 tableNumber c s =
     let k = owner c in
     cond (not (leb 1 k && leb k farms)) 1
     (cond (not (eqb (length s) stationSize) || not (wellFormed k (partOf k s))) 2
-    (laterTests c (partOf k s)))
+    (kindOf c .tests (partOf k s)))
 
 -- every call is numbered by the table, wherever its number is decided: 1 and the size of 2 before any part is looked at (`stationRefusal`),
 abbrev pub NumberedByTable : Type 0
@@ -70,7 +62,7 @@ BlockNumbered =
 -- a call is refused: its number is not 0, its answer follows from that number, and "the whole station" stays unchanged
 pub record Refuses (c : Call) (s : List ℕ) : Type 0 where
   pub number : numberIn (answer kinds c s) ≡ 0 → ⊥
-  pub answered : answer kinds c s ≡ refused c (numberIn (answer kinds c s))
+  pub answered : answer kinds c s ≡ kindOf c .refused (numberIn (answer kinds c s))
   pub kept : after kinds c s ≡ s
 
 -- every number but 0 is a refusal
@@ -84,11 +76,11 @@ TellsWhatItDid =
     → let did = cycleOf (driveOf p) (inputOf i p) .output in
     (cycleAnswer k i p .acknowledged ≡ did .acknowledged) × (cycleAnswer k i p .entered ≡ did .entered)
 
--- numbers 1 to 4: "empty reply", and the reply memory is as it was
+-- a frame, by itself or merged, refused by numbers 1 to 4: "empty reply", and the reply memory is as it was
 abbrev pub EmptyReply : Type 0
 EmptyReply =
-    (k : ℕ) (f m s : List ℕ) (n : ℕ) → numberIn (answer kinds (frame k f m) s) ≡ n → 1 ≤ n → n ≤ 4
-    → answer kinds (frame k f m) s ≡ toFrame (record { length = 0; stored = 0; number = n }) m
+    (merged : Bool) (k : ℕ) (f m s : List ℕ) (n : ℕ) → numberIn (answer kinds (frameBy merged k f m) s) ≡ n → 1 ≤ n → n ≤ 4
+    → answer kinds (frameBy merged k f m) s ≡ toFrame (record { length = 0; stored = 0; number = n }) m
 
 -- a reply stands at the start of the reply memory, whole, and the bytes past it stay unchanged
 abbrev pub ReplyStands : Type 0
@@ -96,13 +88,22 @@ ReplyStands =
     (k : ℕ) (f m p : List ℕ)
     → let reply = replyOf f p (frameRefusal k f (length m) p) in frameReply k f m p ≡ reply ++ drop (length reply) m
 
--- Demand 1: "a frame for another farm's axis changes no stored element", whatever else is wrong with it
+-- so of a frame and of a merged call, whatever it answers: no reply is longer than 244 bytes, and what is past it stays
+abbrev pub PastStays : Type 0
+PastStays =
+    (merged : Bool) (k : ℕ) (f m s : List ℕ) (a : Framed) (w : List ℕ) → answer kinds (frameBy merged k f m) s ≡ toFrame a w
+    → (a .length ≤ 244) × (length w ≡ length m) × (drop (a .length) w ≡ drop (a .length) m)
+
+-- Demand 1: "a frame for another farm's axis changes no stored element", by itself or merged, whatever else is wrong with it
 abbrev pub ForeignAxis : Type 0
-ForeignAxis = (k : ℕ) (f m s : List ℕ) → isWrite f ≡ true → (headerOf (blockOf f) .axis ≡ k → ⊥) → Refuses (frame k f m) s
+ForeignAxis =
+    (merged : Bool) (k : ℕ) (f m s : List ℕ) → isWrite f ≡ true → (headerOf (blockOf f) .axis ≡ k → ⊥) → Refuses (frameBy merged k f m) s
 
 -- nor does a block that is not readable
 abbrev pub UnreadableBlock : Type 0
-UnreadableBlock = (k : ℕ) (f m s : List ℕ) → isWrite f ≡ true → readable blockLimit request (blockOf f) ≡ false → Refuses (frame k f m) s
+UnreadableBlock =
+    (merged : Bool) (k : ℕ) (f m s : List ℕ) → isWrite f ≡ true → readable blockLimit request (blockOf f) ≡ false
+    → Refuses (frameBy merged k f m) s
 
 -- every part of a fresh station is fresh
 abbrev pub FreshParts : Type 0
@@ -113,21 +114,9 @@ pub record WellFormedStation (s : List ℕ) : Type 0 where
   pub size : length s ≡ stationSize
   pub parts : (k : ℕ) → 1 ≤ k → k ≤ farms → wellFormed k (partOf k s) ≡ true
 
--- The words of a cycle are numbers of 16 bits, as the call has them; `mag` of a negative number is one less than its size, so that
--- -32768 is among them.
-pub record SentFits (i : Sent) : Type 0 where
-  pub stw1 : i .stw1 < 2 ^ 16
-  pub nsoll : mag (i .nsoll) < 2 ^ 15
-  pub nist : mag (i .nist) < 2 ^ 15
-  pub fault : i .fault < 2 ^ 16
-
-abbrev pub CallFits : Call → Type 0
-CallFits (cycle axis i) = SentFits i
-CallFits (frame farm f m) = Unit {0}
-
 -- every call keeps every part well-formed
 abbrev pub CallKeepsWellFormed : Type 0
-CallKeepsWellFormed = (c : Call) (s : List ℕ) → CallFits c → WellFormedStation s → WellFormedStation (after kinds c s)
+CallKeepsWellFormed = (c : Call) (s : List ℕ) → kindOf c .Fits → WellFormedStation s → WellFormedStation (after kinds c s)
 
 -- so, whatever is called on a fresh station, its parts are well-formed and no call is refused by number 2
 pub record FromFresh (cs : List Call) (s : List ℕ) : Type 0 where
@@ -135,7 +124,7 @@ pub record FromFresh (cs : List Call) (s : List ℕ) : Type 0 where
   pub never2 : AllOf (λ a. numberIn a ≡ 2 → ⊥) (runAnswers (machine kinds) cs (freshStation s))
 
 abbrev pub NeverIllFormed : Type 0
-NeverIllFormed = (cs : List Call) (s : List ℕ) → AllOf CallFits cs → length s ≡ stationSize → FromFresh cs s
+NeverIllFormed = (cs : List Call) (s : List ℕ) → AllOf (λ c. kindOf c .Fits) cs → length s ≡ stationSize → FromFresh cs s
 
 -- Demand 3, its last sentence: "every response we send is readable and is the one that demand 2 gives." Farm k at rest: on a station of
 -- the right size, its part is well-formed and no response waits.
@@ -146,17 +135,14 @@ pub record AtRest (k : ℕ) (s : List ℕ) : Type 0 where
   pub formed : wellFormed k (partOf k s) ≡ true
   pub idle : waitingLength (partOf k s) ≡ 0
 
--- the frame that writes a request, and the one that fetches at most n bytes
+-- the frame that writes a request
 abbrev pub writeOf : Request → List ℕ
 writeOf r = 0x5F ∷ 0 ∷ 0x2F ∷ length (requestBytes r) ∷ requestBytes r
 
-abbrev pub fetchOf : ℕ → List ℕ
-fetchOf n = 0x5E ∷ 0 ∷ 0x2F ∷ n ∷ []
-
--- what may come between the two: frames of others, and any cycle
-abbrev pub Between : ℕ → Call → Type 0
-Between k (cycle axis i) = SentFits i
-Between k (frame farm f m) = farm ≡ k → ⊥
+-- what may come between a write of farm k and its fetch: every call of others, and of its own every one that does not fetch
+pub record Between (k : ℕ) (c : Call) : Type 0 where
+  pub fits : kindOf c .Fits
+  pub stays : owner c ≡ k → kindOf c .fetches ≡ false
 
 -- a frame that was worked: the elements stored, and the reply, past which the reply memory m is as it was
 abbrev pub replied : List ℕ → ℕ → List ℕ → Answer
@@ -190,6 +176,42 @@ RespondsAsRuled =
     → AllOf (Between k) between
     → length (responseBytes (worked r (partOf k s) .response)) ≤ n → n ≤ blockLimit → 244 ≤ length w
     → Exchanged k r s m between n w
+
+-- Document 02, R-3: the fetch with F0 after a write that was done "cannot be refused", whatever may come between,
+abbrev pub FetchFollows : Type 0
+FetchFollows =
+    (k : ℕ) (f m s : List ℕ) (between : List Call) (w : List ℕ)
+    → isWrite f ≡ true → numberIn (answer kinds (frame k f m) s) ≡ 0 → AllOf (Between k) between → 244 ≤ length w
+    → numberIn (answer kinds (frame k fetchAll w) (runEnd (machine kinds) between (after kinds (frame k f m) s))) ≡ 0
+
+-- so a merged call "equals the two calls made in turn from the same station": the fetch's answer, with what the write stored,
+abbrev pub InTurn : Type 0
+InTurn =
+    (k : ℕ) (f m s : List ℕ) (write fetch : Framed) (m′ m″ : List ℕ)
+    → isWrite f ≡ true → answer kinds (frame k f m) s ≡ toFrame write m′ → write .number ≡ 0
+    → answer kinds (frame k fetchAll m′) (after kinds (frame k f m) s) ≡ toFrame fetch m″
+    → (answer kinds (exchange k f m) s ≡ toFrame (record { length = fetch .length; stored = write .stored; number = 0 }) m″)
+    × (after kinds (exchange k f m) s ≡ after kinds (frame k fetchAll m′) (after kinds (frame k f m) s))
+
+-- "where the write is refused, the write alone" (a read is refused by the table: 4 where the farm, the part and the room are right),
+abbrev pub WriteAlone : Type 0
+WriteAlone =
+    (k : ℕ) (f m s : List ℕ) → isRead f ≡ false → (numberIn (answer kinds (frame k f m) s) ≡ 0 → ⊥)
+    → (answer kinds (exchange k f m) s ≡ answer kinds (frame k f m) s) × (after kinds (exchange k f m) s ≡ after kinds (frame k f m) s)
+
+-- and in terms of requests: farm k at rest is answered by the response that the rules give for its part, "leaving the axis idle"
+pub record Merged (k : ℕ) (r : Request) (s m : List ℕ) : Type 0 where
+  pub answered :
+      let given = responseBytes (worked r (partOf k s) .response) in
+      answer kinds (exchange k (writeOf r) m) s ≡ replied (0x5E ∷ 0 ∷ 0x2F ∷ length given ∷ given) (worked r (partOf k s) .stored) m
+  pub left : partOf k (after kinds (exchange k (writeOf r) m) s) ≡ withResponse [] (worked r (partOf k s) .part)
+  pub idle : waitingLength (partOf k (after kinds (exchange k (writeOf r) m) s)) ≡ 0
+
+abbrev pub MergesAsRuled : Type 0
+MergesAsRuled =
+    (k : ℕ) (r : Request) (s m : List ℕ)
+    → AtRest k s → RequestFits r → length (requestBytes r) ≤ blockLimit → r .axis ≡ k → 244 ≤ length m
+    → Merged k r s m
 
 -- It rests on what waits after a block is worked,
 abbrev pub WaitsAsRuled : Type 0

@@ -1,9 +1,11 @@
 pub mod Parts
 pub mod Frame
+pub mod Exchange
 pub mod Cycle
 pub mod Runs
 pub mod Isolation
 pub mod Calls
+pub mod Owed
 pub mod Laws
 pub mod Worked
 pub mod Inner

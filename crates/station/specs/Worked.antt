@@ -1,5 +1,5 @@
 -- Document 01, "Journal program" and "Worked by hand": P1 to P8, the calls on a fresh station in order, what each answers, and how
--- the station ends.
+-- the station ends; and frames of these as merged calls (document 02, R-3).
 use mathlib.Core.Path.{_≡_}
 use mathlib.Core.Bool.{Bool, true, false}
 use mathlib.Core.List.{List, [], _∷_, _++_, map}
@@ -16,7 +16,7 @@ use Rattle.part.specs.Record.{wordsAt, putDrive}
 use Rattle.station.specs.Parts.{farms, stationSize, partOf, freshStation}
 use Rattle.station.specs.Runs.{runAnswers, runEnd}
 use Rattle.station.specs.Isolation.{machine}
-use Rattle.station.specs.Calls.{Call, cycle, frame, Answer, toCycle, toFrame, kinds}
+use Rattle.station.specs.Calls.{Call, cycle, frame, exchange, Answer, toCycle, toFrame, kinds}
 
 pub record WorkedCall : Type 0 where
   pub call : Call
@@ -77,7 +77,20 @@ workedCalls =
     ∷ frameExample 1 fetchFrame 0 readsReply 0
     ∷ []
 
--- farm 1's part when they are over: fresh, but for what the four cycles left in its drive record, and for mark 0, 1000
+-- Document 02, R-3, on the same frames: the two frames of P5 and P6 as one merged call, the denied one, a read, and P8's as one
+abbrev pub exchangeExample : ℕ → List ℕ → ℕ → List ℕ → ℕ → WorkedCall
+exchangeExample farm f stored reply number =
+    record { call = exchange farm f (replicate 244 0); answer = frameExample farm f stored reply number .answer }
+
+abbrev pub mergedCalls : List WorkedCall
+mergedCalls =
+    exchangeExample 1 marksFrame 1 (0x5E ∷ 0x00 ∷ 0x2F ∷ 0x08 ∷ 0x07 ∷ 0x82 ∷ 0x01 ∷ 0x01 ∷ 0x44 ∷ 0x01 ∷ 0x00 ∷ 0x02 ∷ []) 0
+    ∷ exchangeExample 2 marksFrame 0 (0xDF ∷ 0x80 ∷ 0xB6 ∷ 0x00 ∷ []) 11
+    ∷ exchangeExample 1 fetchFrame 0 [] 4
+    ∷ exchangeExample 1 readsFrame 0 readsReply 0
+    ∷ []
+
+-- farm 1's part when 01's calls are over: fresh, but for what the four cycles left in its drive record, and for mark 0, 1000
 abbrev pub drivenPart : List ℕ
 drivenPart =
     putDrive
@@ -109,3 +122,11 @@ WorkedByHand =
     (s : List ℕ) → length s ≡ stationSize
     → let calls = map (λ w. w .call) workedCalls in
     Ends (runAnswers (machine kinds) calls (freshStation s)) (runEnd (machine kinds) calls (freshStation s))
+
+-- of the merged calls: what they answer, and that farm 1's part is then fresh but for mark 0
+abbrev pub MergedByHand : Type 0
+MergedByHand =
+    (s : List ℕ) → length s ≡ stationSize
+    → let calls = map (λ w. w .call) mergedCalls in
+    (runAnswers (machine kinds) calls (freshStation s) ≡ map (λ w. w .answer) mergedCalls)
+    × (partOf 1 (runEnd (machine kinds) calls (freshStation s)) ≡ put freshPart (offsetOf 30001) (0x03 ∷ 0xE8 ∷ []))

@@ -5,6 +5,7 @@ ghost use Prim.Native.Nat.{_≤_};
 ghost use lib.Dec.{eqb, ltb};
 ghost use lib.ListN.{length};
 ghost use Rattle.station.specs.Frame.{function, lengthFits, frameRefusal};
+ghost use Rattle.station.specs.Exchange.{noRead};
 ghost use Rattle.station.specs.Inner.{early};
 
 // Functions.
@@ -25,6 +26,16 @@ pub(crate) fn function_of(f: &[u8]) -> u8
         return 0;
     }
     f[0]
+}
+
+// How much of a frame a merged call takes: nothing of a read.
+pub(crate) fn unread_length(f: &[u8]) -> usize
+    ensures { λ r. ⌜ r ≡ length (noRead (now (f .entry))) ⌝ }
+{
+    if function_of(f) == READ {
+        return 0;
+    }
+    f.len()
 }
 
 fn is_function(b: u8) -> bool

@@ -2,7 +2,7 @@
 ghost use mathlib.Core.Path.{_≡_};
 ghost use Rattle.station.specs.Parts.{stationSize, stationRefusal, freshNumber, freshStation};
 ghost use Rattle.station.specs.Isolation.{answer, after};
-ghost use Rattle.station.specs.Calls.{kinds, cycle, frame, toCycle, toFrame};
+ghost use Rattle.station.specs.Calls.{kinds, cycle, frame, exchange, toCycle, toFrame};
 
 mod part_cycle; // part_cycle.rt: a control cycle on the part of its axis
 mod part_frame; // part_frame.rt: a frame on the part of its farm
@@ -18,7 +18,7 @@ pub struct Cycled {
     pub number: u8,
 }
 
-// What a frame answers beside its reply: the reply's length, and how many elements were stored.
+// What a frame or a merged call answers beside its reply: the reply's length, and how many elements were stored.
 #[repr(C)]
 pub struct Framed {
     pub length: u16,
@@ -121,4 +121,24 @@ pub fn frame(station: &mut [u8], farm: u32, f: &[u8], reply: &mut [u8]) -> Frame
     let a = (farm as usize - 1) * part::SIZE;
     let e = a + part::SIZE;
     part_frame::frame_on(&mut station[a..e], farm as u8, f, reply)
+}
+
+// A merged call of a farm: a write and, where it is done, the fetch of its response, which no test can refuse.
+pub fn exchange(station: &mut [u8], farm: u32, f: &[u8], reply: &mut [u8]) -> Framed
+    ensures { λ r. ⌜ toFrame r (now (reply .exit)) ≡ answer kinds (exchange farm (now (f .entry)) (now (reply .entry))) (now (station .entry)) ⌝ }
+    ensures { λ r. ⌜ now (station .exit) ≡ after kinds (exchange farm (now (f .entry)) (now (reply .entry))) (now (station .entry)) ⌝ }
+{
+    let n = judge::unread_length(f);
+    let written = frame(station, farm, &f[..n], reply);
+    if written.number != 0 {
+        return written;
+    }
+    let a = (farm as usize - 1) * part::SIZE;
+    let e = a + part::SIZE;
+    let fetched = part_frame::read_on(&mut station[a..e], reply);
+    Framed {
+        length: fetched.length,
+        stored: written.stored,
+        number: 0,
+    }
 }

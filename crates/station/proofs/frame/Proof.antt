@@ -22,7 +22,7 @@ returns c =
     let a = c .before .before .before .before .before .before .args in
     let e = refuses kinds (frame (a .farm) (now (a .f)) (now (a .reply))) (now (a .station)) (c .before .before .refused .result) (c .before .before .refused .ensures) (c .before .if1 .taken) in
     let few : c .before .before .refused .result < 5 = omega (arith, c .before .before .refused .ensures, refusal-small (a .farm) (length (now (a .station)))) in
-    let empty = empty-refused (a .farm) (now (a .f)) (now (a .reply)) (c .before .before .refused .result) few in
+    let empty = empty-refused (now (a .f)) (now (a .reply)) (c .before .before .refused .result) few in
     (ap (λ r. toFrame r (now (a .reply))) (c .empty .ensures) ∙ (empty ∙ e .0), e .1)
 
 sub-a : tie.Need-sub-a

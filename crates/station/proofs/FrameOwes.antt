@@ -1,0 +1,65 @@
+-- What a frame owes.
+use mathlib.Core.Path.{_≡_, refl, sym, ap, _∙_}
+use mathlib.Core.Bool.{Bool, true, false, not, _&&_, _||_, true≢false}
+use mathlib.Core.List.{List}
+use Prim.Native.Nat.{ℕ, zero, suc}
+use lib.Dec.{eqb, eqb·suc-zero}
+use lib.ListN.{length}
+use borrow.Author.Tests.{eqb-true}
+use Rattle.part.specs.Layout.{partSize, waitingLength, waiting}
+use Rattle.part.specs.WellFormed.{wellFormed}
+use Rattle.part.proofs.Laws.{response-length, no-response-well-formed}
+use Rattle.access.proofs.Lengths.{outcome-length}
+use Rattle.access.proofs.Keeps.{block-keeps-well-formed}
+use Rattle.station.specs.Frame.{isWrite, isRead, blockOf, frameRefusal, frameAnswer, frameReply, framePart}
+use Rattle.station.specs.Inner.{early}
+use Rattle.station.specs.Calls.{frame, toFrame, refusedFrame, kindOf}
+use Rattle.station.specs.Owed.{Owes}
+use Rattle.station.proofs.Tests.{one-of}
+use Rattle.station.proofs.Judged.{passes}
+use Rattle.station.proofs.Says.{later}
+
+-- a frame that is done and is no read is a write, in its turn: nothing waits
+turned : (write reads none : Bool) → reads ≡ false → write || reads ≡ true → (write && not none || reads && none) ≡ false → (write ≡ true) × (none ≡ true)
+turned true reads true x r t = (refl, refl)
+turned true reads false x r t = absurd (true≢false t)
+turned false reads none x r t = absurd (true≢false (sym r ∙ x))
+
+pub writes : (k : ℕ) (f : List ℕ) (m : ℕ) (p : List ℕ) → frameRefusal k f m p ≡ 0 → isRead f ≡ false → (isWrite f ≡ true) × (waitingLength p ≡ 0)
+unfolding early
+writes k f m p e isnt =
+    let c = passes k f m p (sym (ap early e)) in
+    let t = turned (isWrite f) (isRead f) (eqb (waitingLength p) 0) isnt (c .function) (c .turn) in
+    (t .0, eqb-true (waitingLength p) 0 (t .1))
+
+module _ (k : ℕ) (f m : List ℕ) where
+  refuses : (p : List ℕ) (n : ℕ) → frameRefusal k f (length m) p ≡ suc n
+      → (toFrame (frameAnswer k f m p) (frameReply k f m p) ≡ refusedFrame f m (suc n)) × (framePart k f m p ≡ p)
+  unfolding frameAnswer frameReply framePart
+  refuses p n e = rw (e, eqb·suc-zero n) (refl, refl)
+
+  waits : (p : List ℕ) → isRead f ≡ false → (waitingLength p ≡ 0 → ⊥) → waiting (framePart k f m p) ≡ waiting p
+  waits p isnt some = go (frameRefusal k f (length m) p) refl
+    where
+      go : (n : ℕ) → frameRefusal k f (length m) p ≡ n → waiting (framePart k f m p) ≡ waiting p
+      go zero e = absurd (some (writes k f (length m) p e isnt .1))
+      go (suc n) e = ap waiting (refuses p n e .1)
+
+  pub frame-owes : Owes (kindOf (frame k f m))
+  unfolding frameAnswer frameRefusal framePart
+  frame-owes =
+      record {
+        names = λ n. refl;
+        numbered = λ p. refl;
+        later = later k f (length m);
+        refuses = refuses;
+        sized = λ p h.
+            one-of (λ (l : List ℕ). length l ≡ partSize) (eqb (frameRefusal k f (length m) p) 0) _ _
+            (one-of (λ (l : List ℕ). length l ≡ partSize) (isWrite f) _ _ (outcome-length k (blockOf f) p ∙ h) (response-length _ p ∙ h))
+            h;
+        formed = λ p fits w.
+            one-of (λ (l : List ℕ). wellFormed k l ≡ true) (eqb (frameRefusal k f (length m) p) 0) _ _
+            (one-of (λ (l : List ℕ). wellFormed k l ≡ true) (isWrite f) _ _ (block-keeps-well-formed k (blockOf f) p w) (no-response-well-formed k p w))
+            w;
+        waits = waits;
+      }

@@ -1,0 +1,82 @@
+-- A write of a farm's own block where nothing waits, and a fetch of what waits, are refused by no number; so a write that was done is
+-- followed by a fetch that is.
+use mathlib.Core.Path.{_≡_, refl, sym, ap, _∙_}
+use mathlib.Core.Bool.{true, false, true≢false}
+use mathlib.Core.List.{List, [], _∷_}
+use Prim.Native.Nat.{ℕ, _≤_}
+use native.Mathlib.Omega.{arith}
+use lib.Dec.{lit≤}
+use lib.ListN.{length, take, drop, length-drop}
+use lib.Seq.{length-take-le}
+use borrow.Author.Tests.{eq-eqb, ne-eqb, le-leb, le-ltb}
+use Rattle.codes.specs.Code.{readable}
+use Rattle.codes.proofs.Demand.{readable-read}
+use Rattle.blocks.specs.declared.Header.{Header}
+use Rattle.blocks.specs.Block.{blockLimit}
+use Rattle.blocks.specs.Request.{request}
+use Rattle.blocks.specs.Response.{response}
+use Rattle.blocks.specs.Place.{headerOf}
+use Rattle.blocks.proofs.Sound.{request-sound}
+use Rattle.blocks.proofs.Request.{request-header}
+use Rattle.part.specs.Layout.{responseAt, responseRoom, waitingLength, waiting}
+use Rattle.part.specs.WellFormed.{wellFormed}
+use Rattle.access.specs.Work.{outcomeOf}
+use Rattle.station.specs.Frame.{isWrite, blockOf, fetchOf, frameTests, frameRefusal, framePart}
+use Rattle.station.specs.Inner.{early}
+use Rattle.station.specs.Exchange.{fetchAll}
+use Rattle.station.proofs.Judged.{passes}
+use Rattle.station.proofs.Says.{mine}
+use Rattle.station.proofs.Frames.{formed}
+use Rattle.station.proofs.Sends.{waits-as-ruled}
+use Rattle.station.proofs.FrameOwes.{frame-owes}
+
+-- in a well-formed part as many bytes wait as its length says
+pub waits-all : (k : ℕ) (p : List ℕ) → wellFormed k p ≡ true → waitingLength p ≡ length (waiting p)
+waits-all k p w =
+    let f = formed k p w in
+    let room : length (responseRoom p) ≡ blockLimit = length-take-le blockLimit (drop responseAt p) (rw length-drop (omega (arith, f .0))) in
+    sym (length-take-le (waitingLength p) (responseRoom p) (omega (arith, f .1, room)))
+
+-- a write of a readable block of the farm's own axis, and a fetch of what waits, are refused by no number
+module _ (k : ℕ) (m p : List ℕ) (w : wellFormed k p ≡ true) (room : 244 ≤ length m) where
+  pub write-passes :
+      (b : List ℕ) → waitingLength p ≡ 0 → length b ≤ blockLimit → readable blockLimit request b ≡ true → headerOf b .axis ≡ k
+      → frameRefusal k (0x5F ∷ 0 ∷ 0x2F ∷ length b ∷ b) (length m) p ≡ 0
+  unfolding frameRefusal
+  write-passes b idle short reads mine =
+      rw (w, le-ltb (length m) 244 room, le-ltb (length (0x5F ∷ 0 ∷ 0x2F ∷ length b ∷ b)) 4 (omega arith), le-leb (length b) blockLimit short, eq-eqb (length b) (length b) refl, idle, reads, eq-eqb (headerOf b .axis) k mine)
+
+  pub fetch-passes : (n : ℕ) → (waitingLength p ≡ 0 → ⊥) → waitingLength p ≤ n → n ≤ blockLimit → frameRefusal k (fetchOf n) (length m) p ≡ 0
+  unfolding frameRefusal
+  fetch-passes n some enough short = rw (w, le-ltb (length m) 244 room, le-leb n blockLimit short, ne-eqb (waitingLength p) 0 some, le-ltb n (waitingLength p) enough)
+
+-- a write that is done, on the part p, with the reply memory m
+module _ (k : ℕ) (f m p : List ℕ) (e : frameRefusal k f (length m) p ≡ 0) (is : isWrite f ≡ true) where
+  was-formed : wellFormed k p ≡ true
+  unfolding early
+  was-formed = passes k f (length m) p (sym (ap early e)) .formed
+
+  pub left-formed : wellFormed k (framePart k f m p) ≡ true
+  left-formed = frame-owes k f m .formed p tt was-formed
+
+  tested : frameTests k f (length m) p ≡ 0
+  unfolding frameRefusal
+  tested = rw was-formed at e
+
+  pub left-is : framePart k f m p ≡ outcomeOf k (blockOf f) p .part
+  unfolding framePart
+  left-is = rw (e, is) refl
+
+  pub something-waits : waitingLength (framePart k f m p) ≡ 0 → ⊥
+  unfolding readable response
+  something-waits none =
+      let my = mine k f (length m) p tested is in
+      let r = readable-read blockLimit request request-sound (blockOf f) (my .reads) in
+      let axis : r .0 .axis ≡ k = sym (ap (λ (h : Header). h .axis) (request-header (blockOf f) (r .0) [] (r .1))) ∙ my .axis in
+      let good = waits-as-ruled k (blockOf f) p (r .0) (formed k p was-formed .0) (my .reads) (r .1) axis .1 in
+      let empty : waiting (framePart k f m p) ≡ [] = ap (λ (n : ℕ). take n (responseRoom (framePart k f m p))) none in
+      true≢false (sym good ∙ (ap (λ (l : List ℕ). readable blockLimit response (waiting l)) (sym left-is) ∙ ap (readable blockLimit response) empty))
+
+  pub fetch-follows : (w : List ℕ) → 244 ≤ length w → frameRefusal k fetchAll (length w) (framePart k f m p) ≡ 0
+  fetch-follows w room =
+      fetch-passes k w (framePart k f m p) left-formed room 0xF0 something-waits (formed k (framePart k f m p) left-formed .1) (lit≤ tt)

@@ -1,0 +1,27 @@
+-- What every kind of call owes, said once for all of them: the laws of a station (Laws.antt) rest on this and on no case of a kind.
+use mathlib.Core.Path.{_≡_}
+use mathlib.Core.Bool.{true, false, cond, not}
+use mathlib.Core.List.{List}
+use Prim.Native.Nat.{ℕ, suc, _≤_}
+use lib.ListN.{length}
+use Rattle.part.specs.Layout.{partSize, waitingLength, waiting}
+use Rattle.part.specs.WellFormed.{wellFormed}
+use Rattle.station.specs.Calls.{Call, Kind, kindOf, numberIn}
+
+pub record Owes (c : Kind) : Type 0 where
+  -- a refusal answers its number
+  pub names : (n : ℕ) → numberIn (c .refused n) ≡ n
+  -- on its owner's part: number 2 where that is not well-formed, else what its tests say, which is 0 or 3 and above
+  pub numbered : (p : List ℕ) → numberIn (c .answers p) ≡ cond (not (wellFormed (c .owner) p)) 2 (c .tests p)
+  pub later : (p : List ℕ) → c .tests p ≤ 2 → c .tests p ≡ 0
+  -- every number but 0 settles the answer and leaves the part as it was
+  pub refuses : (p : List ℕ) (n : ℕ) → numberIn (c .answers p) ≡ suc n → (c .answers p ≡ c .refused (suc n)) × (c .leaves p ≡ p)
+  -- of a part it leaves a part,
+  pub sized : (p : List ℕ) → length p ≡ partSize → length (c .leaves p) ≡ partSize
+  -- well-formed where it was,
+  pub formed : (p : List ℕ) → c .Fits → wellFormed (c .owner) p ≡ true → wellFormed (c .owner) (c .leaves p) ≡ true
+  -- and a response that waits goes on waiting, unless the call fetches
+  pub waits : (p : List ℕ) → c .fetches ≡ false → (waitingLength p ≡ 0 → ⊥) → waiting (c .leaves p) ≡ waiting p
+
+abbrev pub EveryKindOwes : Type 0
+EveryKindOwes = (c : Call) → Owes (kindOf c)
