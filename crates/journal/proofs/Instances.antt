@@ -7,9 +7,12 @@ use native.Mathlib.Omega.{arith}
 use lib.ListN.{length}
 use Rattle.codes.specs.Code.{AllOf}
 use Rattle.station.specs.Parts.{farms, freshParts}
-use Rattle.journal.specs.Line.{nextRecord, pastRecord, isRecord, recordLine, badLine}
+use Rattle.station.specs.Calls.{frame, exchange, toFrame}
+use Rattle.journal.specs.Text.{decimal}
+use Rattle.journal.specs.Line.{nextRecord, pastRecord, replyRoom, lineOf, isRecord, callOf, recordLine, badLine}
 use Rattle.journal.specs.History.{Parted, parted, replayFrom, replayOf}
 use Rattle.journal.specs.Laws.{joined, pieces, played}
+use Rattle.journal.proofs.Records.{merged-records}
 use Rattle.journal.proofs.Whole.{parted-as-written, every-journal, enough-bytes, plays-whole, replays-whole}
 
 -- PartedAsWritten: two records and a byte that is none
@@ -49,3 +52,19 @@ fresh-bad-ends = sym (replays-whole (0x00 ∷ 0x01 ∷ []))
 -- from fresh parts, and from nothing else
 from-fresh : (bs : List ℕ) → replayOf bs ≡ replayFrom bs (freshParts farms)
 from-fresh bs = sym (replays-whole bs) ∙ plays-whole bs (freshParts farms)
+
+-- MergedRecords: a frame of one byte, in both kinds; and the start of the line of each
+module _ (zeros : List ℕ) where
+  one-byte : isRecord (3 ∷ 1 ∷ 1 ∷ 0x5F ∷ zeros) ≡ isRecord (2 ∷ 1 ∷ 1 ∷ 0x5F ∷ zeros)
+  one-byte = merged-records 1 1 (0x5F ∷ zeros) .alike
+
+  its-frame : callOf (2 ∷ 1 ∷ 1 ∷ 0x5F ∷ zeros) ≡ frame 1 (0x5F ∷ []) replyRoom
+  its-frame = merged-records 1 1 (0x5F ∷ zeros) .alone
+
+  its-merged : callOf (3 ∷ 1 ∷ 1 ∷ 0x5F ∷ zeros) ≡ exchange 1 (0x5F ∷ []) replyRoom
+  its-merged = merged-records 1 1 (0x5F ∷ zeros) .merged
+
+-- `e 1 0 -` of a merged call that is refused with an empty reply
+refused-line : lineOf (exchange 1 [] replyRoom) (toFrame (record { length = 0; stored = 0; number = 4 }) []) ≡ 0x65 ∷ 0x20 ∷ 0x31 ∷ 0x20 ∷ 0x30 ∷ 0x20 ∷ 0x2D ∷ 0x0A ∷ []
+unfolding decimal
+refused-line = merged-records 1 0 [] .lines (record { length = 0; stored = 0; number = 4 }) [] .1

@@ -7,16 +7,17 @@ use native.Mathlib.Omega.{arith}
 use native.Mathlib.Numerals.{add-one}
 use lib.Dec.{eqb, leb}
 use lib.ListN.{length, getD, drop}
-use lib.Seq.{drop-cons}
+use lib.Seq.{drop-cons, drop-append-add}
 use borrow.Author.Tests.{eqb-true, leb-true, eq-eqb, ne-eqb}
 use Rattle.codes.specs.Number.{put}
 use Rattle.drive.specs.Faults.{zeros}
 use Rattle.station.specs.Calls.{Call, kinds}
 use Rattle.station.specs.Isolation.{answer, after}
-use Rattle.journal.specs.Line.{recordLength, cycleRecord, frameRecord, cycleCall, frameLength, frameCall, isCycle, isFrame, isRecord, callOf, lineOf, badLine, recordLine, recordAfter}
+use Rattle.journal.specs.Line.{recordLength, cycleRecord, frameRecord, cycleCall, frameLength, frameCall, isCycle, isMerged, isFrame, isRecord, callOf, lineOf, badLine, recordLine, recordAfter}
 use Rattle.journal.specs.declared.Acted.{Acted}
 use Rattle.journal.specs.declared.Acted.the-variants.{Bad}
 use Rattle.journal.specs.History.{actedBy, actedOf}
+use Rattle.journal.specs.Laws.{MergedRecords}
 use Rattle.journal.proofs.Pieces.{wrote-first, from-start}
 
 -- bytes tested for 0, from a place on
@@ -39,9 +40,17 @@ pub frame-lengths : (r : List ℕ) → isFrame r ≡ true → (length r ≡ fram
 frame-lengths r h =
     let clear = zeros (drop (3 + frameLength r) r) in
     let fits = leb (frameLength r) 244 in
-    let whole = and-eq-true-iff (eqb (length r) frameRecord) (eqb (getD r 0 0) 2 && (fits && clear)) .0 h in
-    let kind = and-eq-true-iff (eqb (getD r 0 0) 2) (fits && clear) .0 (whole .1) in
+    let whole = and-eq-true-iff (eqb (length r) frameRecord) ((eqb (getD r 0 0) 2 || isMerged r) && (fits && clear)) .0 h in
+    let kind = and-eq-true-iff (eqb (getD r 0 0) 2 || isMerged r) (fits && clear) .0 (whole .1) in
     (eqb-true _ _ (whole .0), leb-true _ _ (and-eq-true-iff fits clear .0 (kind .1) .0))
+
+-- both kinds that hold a frame are as long
+frame-kinds : (kind : ℕ) → eqb kind 2 || eqb kind 3 ≡ true → recordLength kind ≡ frameRecord
+frame-kinds kind e = go (eqb kind 2) refl
+  where
+    go : (b : Bool) → eqb kind 2 ≡ b → recordLength kind ≡ frameRecord
+    go true h = ap recordLength (eqb-true kind 2 h)
+    go false h = ap recordLength (eqb-true kind 3 (rw h at e))
 
 -- a record is as long as its kind byte says
 pub record-whole : (r : List ℕ) → isRecord r ≡ true → recordLength (getD r 0 0) ≡ length r
@@ -54,8 +63,8 @@ record-whole r = go (isCycle r) (isFrame r) refl refl
     go : (c f : Bool) → isCycle r ≡ c → isFrame r ≡ f → c || f ≡ true → recordLength (getD r 0 0) ≡ length r
     go true f a b e = ap recordLength (eqb-true (getD r 0 0) 1 (and-eq-true-iff (eqb (length r) cycleRecord) (eqb (getD r 0 0) 1) .0 a .1)) ∙ sym (cycle-length r a)
     go false true a b e =
-        let x = and-eq-true-iff (eqb (length r) frameRecord) (eqb (getD r 0 0) 2 && rest) .0 b in
-        ap recordLength (eqb-true (getD r 0 0) 2 (and-eq-true-iff (eqb (getD r 0 0) 2) rest .0 (x .1) .0)) ∙ sym (frame-lengths r b .0)
+        let x = and-eq-true-iff (eqb (length r) frameRecord) ((eqb (getD r 0 0) 2 || isMerged r) && rest) .0 b in
+        frame-kinds (getD r 0 0) (and-eq-true-iff (eqb (getD r 0 0) 2 || isMerged r) rest .0 (x .1) .0) ∙ sym (frame-lengths r b .0)
     go false false a b e = absurd (true≢false (sym e))
 
 -- what a play and an act promise, by what the bytes are
@@ -88,3 +97,22 @@ module _ (r s : List ℕ) where
     played put-there long fits room left =
         let all : m ≡ bs ++ drop p l = from-start (wrote-first (put-there, (long, fits))) (omega arith) in
         (rw (e .line) all, ((rw (e .line) long, fits), (sym (e .good), left ∙ sym (e .after))))
+
+-- a record that holds a frame is no cycle's
+no-cycle : (b : Bool) → b && false ≡ false
+no-cycle true = refl
+no-cycle false = refl
+
+-- what stands past the frame
+past : (kind farm n : ℕ) (bytes : List ℕ) → drop (3 + n) (kind ∷ farm ∷ n ∷ bytes) ≡ drop n bytes
+past kind farm n bytes = drop-append-add (kind ∷ farm ∷ n ∷ []) bytes n
+
+pub merged-records : MergedRecords
+unfolding isRecord callOf
+merged-records farm n bytes =
+    record {
+      alike = rw (no-cycle (eqb (length (0 ∷ farm ∷ n ∷ bytes)) cycleRecord), past 3 farm n bytes, past 2 farm n bytes) refl;
+      alone = rw (no-cycle (eqb (length (0 ∷ farm ∷ n ∷ bytes)) cycleRecord)) refl;
+      merged = rw (no-cycle (eqb (length (0 ∷ farm ∷ n ∷ bytes)) cycleRecord)) refl;
+      lines = λ a reply. (refl, refl);
+    }

@@ -1,12 +1,15 @@
--- What callers may cite of a journal in place of its text: from document 01, "Journal program". Each is a statement here and a proof in proofs/.
+-- What callers may cite of a journal in place of its text: from document 01, "Journal program", and document 02, R-3. Each is a statement
+-- here and a proof in proofs/.
 use mathlib.Core.Path.{_≡_}
 use mathlib.Core.Bool.{true, false, cond}
 use mathlib.Core.List.{List, [], _∷_, _++_}
 use Prim.Native.Nat.{ℕ, zero, suc, _≤_}
-use lib.ListN.{length}
+use lib.ListN.{length, take, drop}
 use Rattle.codes.specs.Code.{AllOf}
+use Rattle.station.specs.declared.Framed.{Framed}
 use Rattle.station.specs.Parts.{farms, freshParts}
-use Rattle.journal.specs.Line.{longestRecord, nextRecord, pastRecord, isRecord, recordLine, recordAfter}
+use Rattle.station.specs.Calls.{frame, exchange, toFrame}
+use Rattle.journal.specs.Line.{longestRecord, nextRecord, pastRecord, replyRoom, frameLine, lineOf, isRecord, callOf, recordLine, recordAfter}
 use Rattle.journal.specs.History.{parted, replayFrom, replayOf}
 
 -- records one after the other
@@ -53,3 +56,20 @@ PlaysWhole = (bs s : List ℕ) → played (pieces bs) s ≡ replayFrom bs s
 
 abbrev pub ReplaysWhole : Type 0
 ReplaysWhole = (bs : List ℕ) → played (pieces bs) (freshParts farms) ≡ replayOf bs
+
+-- Document 02, R-3: "Journal kind 3, body as kind 2, is the merged call; its line starts with `e`." The record of a farm, a length and bytes:
+pub record MergedRecord (farm n : ℕ) (bytes : List ℕ) : Type 0 where
+  -- what is bad in one kind is bad in the other,
+  pub alike : isRecord (3 ∷ farm ∷ n ∷ bytes) ≡ isRecord (2 ∷ farm ∷ n ∷ bytes)
+  -- the call of one is the frame, of the other the merged call of that frame,
+  pub alone : callOf (2 ∷ farm ∷ n ∷ bytes) ≡ frame farm (take n bytes) replyRoom
+  pub merged : callOf (3 ∷ farm ∷ n ∷ bytes) ≡ exchange farm (take n bytes) replyRoom
+  -- and for the same answer their lines are, but for the letter, the same: `f` and `e`
+  pub lines :
+      (a : Framed) (reply : List ℕ)
+      → let rest = drop 1 (frameLine false farm a reply) ++ (0x0A ∷ []) in
+      (lineOf (frame farm (take n bytes) replyRoom) (toFrame a reply) ≡ 0x66 ∷ rest)
+      × (lineOf (exchange farm (take n bytes) replyRoom) (toFrame a reply) ≡ 0x65 ∷ rest)
+
+abbrev pub MergedRecords : Type 0
+MergedRecords = (farm n : ℕ) (bytes : List ℕ) → MergedRecord farm n bytes

@@ -1,5 +1,5 @@
--- Document 01, "Journal program": one record, the line that it writes, and the station after it.
-use mathlib.Core.Bool.{Bool, cond, _&&_, _||_}
+-- Document 01, "Journal program", with kind 3 of document 02, R-3: one record, the line that it writes, and the station after it.
+use mathlib.Core.Bool.{Bool, true, false, cond, _&&_, _||_}
 use mathlib.Core.List.{List, [], _∷_, _++_}
 use Prim.Native.Nat.{ℕ, _+_}
 use lib.Dec.{eqb, leb}
@@ -8,7 +8,7 @@ use Rattle.codes.specs.Number.{numberAt, signedOf}
 use Rattle.drive.specs.Faults.{zeros}
 use Rattle.station.specs.declared.Cycled.{Cycled}
 use Rattle.station.specs.declared.Framed.{Framed}
-use Rattle.station.specs.Calls.{Call, cycle, frame, Answer, toCycle, toFrame, owner, kinds}
+use Rattle.station.specs.Calls.{Call, cycle, frame, exchange, frameBy, Answer, toCycle, toFrame, owner, kinds}
 use Rattle.station.specs.Isolation.{answer, after}
 use Rattle.journal.specs.Text.{decimal, signed, hexWord, hexBytes}
 
@@ -16,13 +16,13 @@ use Rattle.journal.specs.Text.{decimal, signed, hexWord, hexBytes}
 abbrev pub cycleRecord : ℕ
 cycleRecord = 11
 
--- "Kind 2, 246 bytes: farm, frame length 0..244, 244 bytes, zero past the length."
+-- "Kind 2, 246 bytes: farm, frame length 0..244, 244 bytes, zero past the length."; R-3: "Journal kind 3, body as kind 2"
 abbrev pub frameRecord : ℕ
 frameRecord = 247
 
 -- "Records: one byte of kind, then a body": how long a record of a kind is; anything else is bad by its kind byte
 abbrev pub recordLength : ℕ → ℕ
-recordLength kind = cond (eqb kind 1) cycleRecord (cond (eqb kind 2) frameRecord 1)
+recordLength kind = cond (eqb kind 1) cycleRecord (cond (eqb kind 2 || eqb kind 3) frameRecord 1)
 
 -- the longest of them
 abbrev pub longestRecord : ℕ
@@ -53,15 +53,20 @@ frameLength r = getD r 2 0
 abbrev pub replyRoom : List ℕ
 replyRoom = replicate 244 0
 
+-- R-3: kind 3 "is the merged call"
+abbrev pub isMerged : List ℕ → Bool
+isMerged r = eqb (getD r 0 0) 3
+
 abbrev pub frameCall : List ℕ → Call
-frameCall r = frame (getD r 1 0) (take (frameLength r) (drop 3 r)) replyRoom
+frameCall r = frameBy (isMerged r) (getD r 1 0) (take (frameLength r) (drop 3 r)) replyRoom
 
 abbrev pub isCycle : List ℕ → Bool
 isCycle r = eqb (length r) cycleRecord && eqb (getD r 0 0) 1
 
+-- of kind 2 or 3
 abbrev pub isFrame : List ℕ → Bool
 isFrame r =
-    eqb (length r) frameRecord && (eqb (getD r 0 0) 2 && (leb (frameLength r) 244 && zeros (drop (3 + frameLength r) r)))
+    eqb (length r) frameRecord && ((eqb (getD r 0 0) 2 || isMerged r) && (leb (frameLength r) 244 && zeros (drop (3 + frameLength r) r)))
 
 -- the state's name
 abbrev pub stateName : ℕ → List ℕ
@@ -77,18 +82,27 @@ cycleLine axis r =
     (0x63 ∷ space ∷ decimal axis ++ (space ∷ stateName (r .state) ++ (space ∷ hexWord (r .status) ++ (space ∷ signed (r .rpm)))))
     (0x78 ∷ space ∷ decimal (r .number))
 
--- "`f`, farm, elements stored, reply in hex. An empty reply prints `-`."
+-- "`f`, farm, elements stored, reply in hex. An empty reply prints `-`."; of the merged call, R-3: "its line starts with `e`"
 abbrev pub replyText : List ℕ → List ℕ
 replyText bs = cond (eqb (length bs) 0) (0x2D ∷ []) (hexBytes bs)
 
-abbrev pub frameLine : ℕ → Framed → List ℕ → List ℕ
-frameLine farm r reply =
-    0x66 ∷ space ∷ decimal farm ++ (space ∷ decimal (r .stored) ++ (space ∷ replyText (take (r .length) reply)))
+abbrev pub frameLetter : Bool → ℕ
+frameLetter merged = cond merged 0x65 0x66
+
+abbrev pub frameLine : Bool → ℕ → Framed → List ℕ → List ℕ
+frameLine merged farm r reply =
+    frameLetter merged ∷ space ∷ decimal farm ++ (space ∷ decimal (r .stored) ++ (space ∷ replyText (take (r .length) reply)))
+
+-- whether a call is a merged one
+abbrev pub mergedCall : Call → Bool
+mergedCall (cycle axis i) = false
+mergedCall (frame farm f m) = false
+mergedCall (exchange farm f m) = true
 
 -- the line of a call and its answer
 abbrev pub lineOf : Call → Answer → List ℕ
 lineOf c (toCycle d) = cycleLine (owner c) (d .told) ++ (0x0A ∷ [])
-lineOf c (toFrame f reply) = frameLine (owner c) f reply ++ (0x0A ∷ [])
+lineOf c (toFrame f reply) = frameLine (mergedCall c) (owner c) f reply ++ (0x0A ∷ [])
 
 -- "Anything else, or a cut body, writes `bad` and ends"
 abbrev pub badLine : List ℕ

@@ -30,18 +30,18 @@ pub(crate) fn cycle(station: &mut [u8], bytes: &[u8]) -> CycleDone
     )
 }
 
-// The frame of a record, answered in a reply memory of zeros.
+// The frame of a record, by itself or as the merged call, answered in a reply memory of zeros.
 pub(crate) fn frame(station: &mut [u8], bytes: &[u8], reply: &mut [u8]) -> Framed
     requires { ⌜ (length (now bytes) ≡ frameRecord) × ((frameLength (now bytes) ≤ 244) × (now reply ≡ replyRoom)) ⌝ }
     ensures { λ r. ⌜ toFrame r (now (reply .exit)) ≡ answer kinds (frameCall (now (bytes .entry))) (now (station .entry)) ⌝ }
     ensures { λ r. ⌜ r .length ≤ 244 ⌝ }
     ensures { λ r. ⌜ now (station .exit) ≡ after kinds (frameCall (now (bytes .entry))) (now (station .entry)) ⌝ }
 {
+    let farm = bytes[1] as u32;
     let end = record::FRAME_HEAD + codes::wide(bytes[2]);
-    station::frame(
-        station,
-        bytes[1] as u32,
-        &bytes[record::FRAME_HEAD..end],
-        reply,
-    )
+    let f = &bytes[record::FRAME_HEAD..end];
+    if record::is_merged(bytes) {
+        return station::exchange(station, farm, f, reply);
+    }
+    station::frame(station, farm, f, reply)
 }

@@ -20,7 +20,7 @@ pub use line::put_spaced_number;
 pub use record::longest_record;
 pub use record::next_length;
 
-// Room for any line: `f`, two numbers of at most ten digits, three spaces, 244 bytes in hex, and the line's end.
+// Room for any line: a letter, two numbers of at most ten digits, three spaces, 244 bytes in hex, and the line's end.
 pub const LINE: usize = 513;
 
 // How long the line is, and whether the bytes were a record.
@@ -29,7 +29,7 @@ pub struct Played {
     pub good: bool,
 }
 
-// What a record did: a cycle of an axis, or a frame of a farm; nothing, where it is bad.
+// What a record did: a cycle of an axis, or a frame of a farm, by itself or merged; nothing, where it is bad.
 pub enum Acted {
     Cycle(u8, CycleDone),
     Frame(u8, Framed),
@@ -49,7 +49,7 @@ fn play_cycle(station: &mut [u8], bytes: &[u8], line: &mut [u8]) -> usize
     text::put_byte(line, next, b'\n')
 }
 
-// Plays a record of a frame.
+// Plays a record of a frame, by itself or as the merged call.
 fn play_frame(station: &mut [u8], bytes: &[u8], line: &mut [u8]) -> usize
     requires { ⌜ (length (now bytes) ≡ frameRecord) × ((frameLength (now bytes) ≤ 244) × (length (now line) ≡ 513)) ⌝ }
     ensures { λ r. ⌜ now (line .exit) ≡ put (now (line .entry)) 0 (lineOf (frameCall (now (bytes .entry))) (answer kinds (frameCall (now (bytes .entry))) (now (station .entry)))) ⌝ }
@@ -58,7 +58,7 @@ fn play_frame(station: &mut [u8], bytes: &[u8], line: &mut [u8]) -> usize
 {
     let mut reply = [0u8; record::FRAME_ROOM];
     let f = call::frame(station, bytes, &mut reply);
-    let next = line::put_frame(line, bytes[1], f, &reply);
+    let next = line::put_frame(line, record::is_merged(bytes), bytes[1], f, &reply);
     text::put_byte(line, next, b'\n')
 }
 

@@ -5,7 +5,7 @@ ghost use Prim.Native.Nat.{_+_, _≤_};
 ghost use lib.ListN.{length};
 ghost use Rattle.codes.specs.Number.{put};
 ghost use Rattle.journal.specs.Text.{decimal, signed, hexWord};
-ghost use Rattle.journal.specs.Line.{space, stateName, cycleLine, replyText, frameLine, badLine};
+ghost use Rattle.journal.specs.Line.{space, stateName, cycleLine, replyText, frameLetter, frameLine, badLine};
 use super::text::DIGITS_64;
 use super::text::put_byte;
 use super::text::put_decimal;
@@ -101,14 +101,21 @@ fn put_reply(line: &mut [u8], at: usize, reply: &[u8]) -> usize
     put_hex_bytes(line, next, reply)
 }
 
+// What the line of a frame, by itself or as the merged call, begins with.
+fn frame_letter(merged: bool) -> u8
+    ensures { λ r. ⌜ r ≡ frameLetter merged ⌝ }
+{
+    if merged { b'e' } else { b'f' }
+}
+
 // What a frame answered; the reply stands at the start of its memory.
-pub(crate) fn put_frame(line: &mut [u8], farm: u8, f: Framed, reply: &[u8]) -> usize
+pub(crate) fn put_frame(line: &mut [u8], merged: bool, farm: u8, f: Framed, reply: &[u8]) -> usize
     requires { ⌜ (f .length ≤ 244) × ((length (now reply) ≡ 244) × (512 ≤ length (now line))) ⌝ }
-    ensures { λ r. ⌜ now (line .exit) ≡ put (now (line .entry)) 0 (frameLine farm f (now (reply .entry))) ⌝ }
-    ensures { λ r. ⌜ (r ≡ length (frameLine farm f (now (reply .entry)))) × (r ≤ 512) ⌝ }
+    ensures { λ r. ⌜ now (line .exit) ≡ put (now (line .entry)) 0 (frameLine merged farm f (now (reply .entry))) ⌝ }
+    ensures { λ r. ⌜ (r ≡ length (frameLine merged farm f (now (reply .entry)))) × (r ≤ 512) ⌝ }
 {
     let n = f.length as usize;
-    let next = put_head(line, b'f', farm as u32);
+    let next = put_head(line, frame_letter(merged), farm as u32);
     let next = put_count(line, next, f.stored);
     put_reply(line, next, &reply[..n])
 }

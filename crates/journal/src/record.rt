@@ -3,7 +3,7 @@ ghost use mathlib.Core.Path.{_≡_};
 ghost use Prim.Native.Nat.{_≤_};
 ghost use lib.ListN.{length, drop};
 ghost use Rattle.drive.specs.Faults.{zeros};
-ghost use Rattle.journal.specs.Line.{recordLength, longestRecord, nextRecord, isCycle, isFrame};
+ghost use Rattle.journal.specs.Line.{recordLength, longestRecord, nextRecord, isCycle, isMerged, isFrame};
 
 // Records, with their kind byte, and what of a frame's stands before the frame.
 const CYCLE: usize = 11;
@@ -22,6 +22,7 @@ fn record_length(kind: u8) -> usize
     match kind {
         1 => CYCLE,
         2 => FRAME,
+        3 => FRAME,
         _ => 1,
     }
 }
@@ -68,13 +69,21 @@ fn is_clear(s: &[u8], from: usize) -> bool
     true
 }
 
+// Whether a record is of the kind that is the merged call.
+pub(crate) fn is_merged(bytes: &[u8]) -> bool
+    requires { ⌜ 1 ≤ length (now bytes) ⌝ }
+    ensures { λ r. ⌜ r ≡ isMerged (now (bytes .entry)) ⌝ }
+{
+    bytes[0] == 3
+}
+
 pub(crate) fn is_frame(bytes: &[u8]) -> bool
     ensures { λ r. ⌜ r ≡ isFrame (now (bytes .entry)) ⌝ }
 {
     if bytes.len() != FRAME {
         return false;
     }
-    if bytes[0] != 2 {
+    if !codes::either(bytes[0] == 2, is_merged(bytes)) {
         return false;
     }
     let n = codes::wide(bytes[2]);

@@ -15,7 +15,7 @@ use Rattle.station.specs.Isolation.{answer, after, machine, Isolated}
 use Rattle.station.specs.Calls.{Call, Answer, toCycle, toFrame, owner, kinds}
 use Rattle.station.proofs.Windows.{length-with, window-same, window-before, window-after}
 use Rattle.station.proofs.Isolation.{ends}
-use Rattle.station.proofs.Sizes.{isolated-station}
+use Rattle.station.proofs.Owes.{isolated-station}
 use Rattle.journal.specs.History.{eventOf, history}
 use Rattle.season.specs.declared.Turn.{Turn}
 use Rattle.season.specs.declared.Turn.the-variants.{Counted, Bad, Over}

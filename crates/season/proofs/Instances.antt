@@ -9,9 +9,8 @@ use Rattle.station.specs.Parts.{window, stationSize, freshStation}
 use Rattle.station.specs.Cycle.{Sent}
 use Rattle.station.specs.Runs.{callsBy}
 use Rattle.station.specs.Isolation.{answer}
-use Rattle.station.specs.Calls.{Call, cycle, frame, kinds}
-use Rattle.station.specs.Laws.{numberIn}
-use Rattle.station.specs.Worked.{workedCalls}
+use Rattle.station.specs.Calls.{Call, cycle, frame, exchange, numberIn, kinds}
+use Rattle.station.specs.Worked.{marksFrame, workedCalls}
 use Rattle.journal.specs.Line.{nextRecord, pastRecord, isRecord}
 use Rattle.journal.specs.History.{Event, history}
 use Rattle.journal.specs.Laws.{pieces}
@@ -22,7 +21,7 @@ use Rattle.season.specs.Laws.{stepped, sum, Tallied, frameWith}
 use Rattle.season.proofs.Adds.{limits, ends-at-over}
 use Rattle.season.proofs.Whole.{counts-whole, reports-whole}
 use Rattle.season.proofs.Farms.{farms-apart}
-use Rattle.season.proofs.Worked.{one-state, worked-season, worked-counts, worked-lines}
+use Rattle.season.proofs.Worked.{one-state, counts-alike, worked-season, worked-counts, worked-lines}
 
 -- CountsWhole: a kind that is none ends the season with the totals so far, whatever follows it
 bad-ends : (s totals : List ℕ) → Path Season (seasonFrom (0x00 ∷ 0x01 ∷ []) s totals) (record { totals = totals; last = Bad })
@@ -59,6 +58,14 @@ module _ (i : Sent) (s : List ℕ) where
 
   in-none : numberIn (answer kinds (cycle 16 i) s) ≡ 12 → sum (take 6 (answerCounts (answer kinds (cycle 16 i) s))) ≡ 0
   in-none e = one-state 16 i s ∙ ap (λ (n : ℕ). one (eqb n 0)) e
+
+-- CountsAlike: a denied write of the last farm, and any of the first
+module _ (m s : List ℕ) where
+  denied-alike : answerCounts (answer kinds (exchange 16 marksFrame m) s) ≡ answerCounts (answer kinds (frame 16 marksFrame m) s)
+  denied-alike = counts-alike 16 marksFrame m s refl
+
+  stored-alike : (block : List ℕ) → answerCounts (answer kinds (exchange 1 (0x5F ∷ block) m) s) ≡ answerCounts (answer kinds (frame 1 (0x5F ∷ block) m) s)
+  stored-alike block = counts-alike 1 (0x5F ∷ block) m s refl
 
 -- FarmsApart: farm 2's frames and cycles leave no trace in the counts of farms 1 and 16
 module _ (f m : List ℕ) (i : Sent) (cs : List Call) (s totals : List ℕ)

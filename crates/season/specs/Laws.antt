@@ -10,8 +10,8 @@ use Rattle.station.specs.Parts.{farms, stationSize, partOf, freshParts, freshSt
 use Rattle.station.specs.Cycle.{Sent}
 use Rattle.station.specs.Runs.{callsBy, runAnswers, answersTo}
 use Rattle.station.specs.Isolation.{answer, machine}
-use Rattle.station.specs.Calls.{Call, cycle, Answer, toCycle, toFrame, owner, kinds}
-use Rattle.station.specs.Laws.{numberIn}
+use Rattle.station.specs.Frame.{isRead}
+use Rattle.station.specs.Calls.{Call, cycle, frame, exchange, Answer, toCycle, toFrame, numberIn, owner, kinds}
 use Rattle.station.specs.Worked.{workedCalls}
 use Rattle.journal.specs.Line.{recordAfter}
 use Rattle.journal.specs.History.{Event, history}
@@ -55,6 +55,12 @@ abbrev pub OneState : Type 0
 OneState =
     (axis : ℕ) (i : Sent) (s : List ℕ)
     → let a = answer kinds (cycle axis i) s in sum (take 6 (answerCounts a)) ≡ one (eqb (numberIn a) 0)
+
+-- Document 02, R-3: a merged call counts as its write by itself would: what that stores, and whether it is denied
+abbrev pub CountsAlike : Type 0
+CountsAlike =
+    (k : ℕ) (f m s : List ℕ) → isRead f ≡ false
+    → answerCounts (answer kinds (exchange k f m) s) ≡ answerCounts (answer kinds (frame k f m) s)
 
 -- a farm's counts are those of the answers to its own calls, added up
 unfoldable pub summed : List Answer → List ℕ → List ℕ

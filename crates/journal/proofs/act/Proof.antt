@@ -4,6 +4,7 @@ use native.Mathlib.Omega.{arith}
 use denote.Ref.{now}
 use Rattle.journal.specs.Line.{cycleCall, frameCall}
 use Rattle.journal.specs.History.{actedBy}
+use Rattle.journal.proofs.Lines.{frame-acted}
 use Rattle.journal.proofs.Records.{cycle-length, frame-lengths, comes-cycle, comes-frame, comes-bad}
 use borrow.Author.Needs.{needs}
 use Rattle.journal.proofs.act.Statement.{statement}
@@ -54,7 +55,7 @@ returns-2 c =
     let a = c .before .before .before .before .before .before .before .before .before .before .before .before .before .args in
     let e = comes-frame (now (a .bytes)) (now (a .station)) (sym (c .before .before .before .before .before .before .before .before .before .before .is-cycle .ensures) ∙ c .before .before .before .before .before .before .before .before .before .if1 .left) (sym (c .before .before .before .before .before .before .before .before .is-frame .ensures) ∙ c .before .before .before .before .before .before .before .if2 .taken) in
     let called = c .before .before .before .frame in
-    (ap (actedBy (frameCall (now (a .bytes)))) (called .ensures .0) ∙ sym (e .acted), called .ensures .1 .1 ∙ sym (e .after))
+    (frame-acted (now (a .bytes)) (called .result) (called .last .1 .1 .0) ∙ (ap (actedBy (frameCall (now (a .bytes)))) (called .ensures .0) ∙ sym (e .acted)), called .ensures .1 .1 ∙ sym (e .after))
 
 returns-3 : tie.Need-returns-3
 returns-3 c =

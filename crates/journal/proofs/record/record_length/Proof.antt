@@ -10,9 +10,12 @@ returns-2 : tie.Need-returns-2
 returns-2 c = rw (c .match .keys2)
 
 returns-3 : tie.Need-returns-3
-returns-3 c =
+returns-3 c = rw (c .match .keys3)
+
+returns-4 : tie.Need-returns-4
+returns-4 c =
     let rest = c .match .rest in
-    rw (ne-eqb _ _ (rest .0 .1), ne-eqb _ _ (rest .1))
+    rw (ne-eqb _ _ (rest .0 .0 .1), ne-eqb _ _ (rest .0 .1), ne-eqb _ _ (rest .1))
 
 pub record-length-spec : {M : Type 1} → statement M
-record-length-spec = tie.close (tie.spec returns returns-2 returns-3)
+record-length-spec = tie.close (tie.spec returns returns-2 returns-3 returns-4)
