@@ -1,10 +1,10 @@
-//! DP-V1 frames.
+//! DP-V1 frames, and the one call that sends a write and fetches its response.
 
 use crate::axis::{well_formed, Axis, Station, Waiting, BLOCK_MAX};
 use crate::block::{parse_request, Request, RequestKind, FORMAT_ERROR, FORMAT_ZERO};
 use crate::parameter;
 
-/// Reply memory that every frame needs.
+/// Reply memory that every frame and every merged call needs.
 pub const REPLY_MIN: usize = 244;
 
 const READ: u8 = 0x5E;
@@ -15,8 +15,10 @@ const HEADER: usize = 4;
 /// Bytes of an error block, kept free for every address still to come.
 const ERROR_BLOCK: usize = 4;
 const FAILED: u8 = 0x80;
+/// The read that takes any response: none is longer than F0.
+const FETCH: [u8; HEADER] = [READ, SLOT, INDEX, BLOCK_MAX as u8];
 
-/// The answer of a frame.
+/// The answer of a frame or of the merged call.
 #[derive(Clone, Copy, Debug, PartialEq, Eq)]
 pub struct Framed {
     /// Bytes of the reply, 0 for an empty one.
@@ -52,6 +54,18 @@ impl Station {
             _ => write(part, axis, length, block, reply),
         });
         done.unwrap_or_else(|number| refuse(function, number, reply))
+    }
+
+    /// Sends a farm's write frame and fetches the response with F0, as the two calls in turn; a refused write ends it.
+    pub fn exchange(&mut self, farm: u32, frame: &[u8], reply: &mut [u8]) -> Framed {
+        // A read is number 4 here, as an empty frame is: after 1, 2 and 3, whatever its slot.
+        let frame = if frame.first() == Some(&READ) { &[] } else { frame };
+        let written = self.frame(farm, frame, reply);
+        if written.number != 0 {
+            return written;
+        }
+        let fetched = self.frame(farm, &FETCH, reply);
+        Framed { stored: written.stored, ..fetched }
     }
 }
 

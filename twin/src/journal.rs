@@ -2,7 +2,7 @@
 
 use crate::axis::{State, Station};
 use crate::cycle::Cycled;
-use crate::frame::REPLY_MIN;
+use crate::frame::{Framed, REPLY_MIN};
 use crate::record::{Journal, Next, Record};
 use std::io::{self, BufWriter, Read, Write};
 
@@ -30,16 +30,19 @@ fn run(journal: &mut Journal<impl Read>, output: &mut impl Write) -> io::Result<
 
 /// Makes a record's call and writes its line.
 fn play(station: &mut Station, record: &Record, output: &mut impl Write) -> io::Result<()> {
+    let mut reply = [0; REPLY_MIN];
     match *record {
         Record::Cycle { axis, flags, stw1, nsoll, nist, fault } => {
             let cycled = station.cycle(axis.into(), flags.into(), stw1, nsoll, nist, fault);
             write_cycle(output, axis, &cycled)
         }
         Record::Frame { farm, frame } => {
-            let mut reply = [0; REPLY_MIN];
             let framed = station.frame(farm.into(), frame, &mut reply);
-            write!(output, "f {farm} {} ", framed.stored)?;
-            write_reply(output, &reply[..framed.length.into()])
+            write_frame(output, 'f', farm, &framed, &reply)
+        }
+        Record::Exchange { farm, frame } => {
+            let framed = station.exchange(farm.into(), frame, &mut reply);
+            write_frame(output, 'e', farm, &framed, &reply)
         }
     }
 }
@@ -62,6 +65,12 @@ fn state_name(code: u8) -> &'static str {
         Some(State::S52) => "S52",
         None => unreachable!("an accepted cycle with state {code}"),
     }
+}
+
+/// The line of a frame or of the merged call, told apart by its letter.
+fn write_frame(output: &mut impl Write, letter: char, farm: u8, framed: &Framed, reply: &[u8]) -> io::Result<()> {
+    write!(output, "{letter} {farm} {} ", framed.stored)?;
+    write_reply(output, &reply[..framed.length.into()])
 }
 
 /// The reply in hex, or `-`, and the end of the line.

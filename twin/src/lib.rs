@@ -1,5 +1,6 @@
-//! An independent twin of the station of document 01 (`01-scope.md`) and of of document 02
-//! (`02-change-requests.md`), the season report and the fill byte, as `docs/DECISIONS.md` reads them.
+//! An independent twin of the station of document 01 (`01-scope.md`) and of of document 02
+//! (`02-change-requests.md`), the season report, the fill byte and the call that sends and fetches in one, as
+//! `docs/DECISIONS.md` reads them.
 //!
 //! It exists to be compared with another implementation, so it is plain: every rule of the paper stands in one
 //! small function, and every field is public for a harness to set and compare.

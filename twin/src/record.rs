@@ -16,6 +16,8 @@ pub enum Record<'a> {
     Cycle { axis: u8, flags: u8, stw1: u16, nsoll: i16, nist: i16, fault: u16 },
     /// Kind 2, a frame.
     Frame { farm: u8, frame: &'a [u8] },
+    /// Kind 3, the merged call with a frame.
+    Exchange { farm: u8, frame: &'a [u8] },
 }
 
 /// What comes next in a journal.
@@ -50,7 +52,8 @@ impl<R: Read> Journal<R> {
         }
         let record = match kind[0] {
             1 => self.cycle()?,
-            2 => self.frame()?,
+            2 => self.frame()?.map(|(farm, frame)| Record::Frame { farm, frame }),
+            3 => self.frame()?.map(|(farm, frame)| Record::Exchange { farm, frame }),
             _ => None,
         };
         Ok(record.map_or(Next::Bad, Next::Record))
@@ -67,13 +70,14 @@ impl<R: Read> Journal<R> {
         Ok(Some(Record::Cycle { axis, flags, stw1: word(2), nsoll, nist, fault: word(8) }))
     }
 
-    fn frame(&mut self) -> io::Result<Option<Record<'_>>> {
+    /// The body of kinds 2 and 3: a farm and its frame.
+    fn frame(&mut self) -> io::Result<Option<(u8, &[u8])>> {
         if !fill(&mut self.input, &mut self.body)? {
             return Ok(None);
         }
         let [farm, length, ref room @ ..] = self.body;
         let Some((frame, unused)) = room.split_at_checked(length.into()) else { return Ok(None) };
-        Ok(unused.iter().all(|byte| *byte == 0).then_some(Record::Frame { farm, frame }))
+        Ok(unused.iter().all(|byte| *byte == 0).then_some((farm, frame)))
     }
 }
 

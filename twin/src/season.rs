@@ -88,6 +88,10 @@ pub fn count(station: &mut Station, totals: &mut Totals, record: &Record) -> Res
             let framed = station.frame(farm.into(), frame, &mut [0; REPLY_MIN]);
             add(totals, farm, &frame_counts(&framed))
         }
+        Record::Exchange { farm, frame } => {
+            let framed = station.exchange(farm.into(), frame, &mut [0; REPLY_MIN]);
+            add(totals, farm, &frame_counts(&framed))
+        }
     }
 }
 
@@ -111,7 +115,7 @@ fn state_count(state: State) -> usize {
     }
 }
 
-/// What a frame counts, refused or not.
+/// What a frame or a merged call counts, refused or not.
 fn frame_counts(framed: &Framed) -> Counts {
     let mut counts = [0; COUNTS];
     counts[DENIED] = u64::from(framed.number == FOREIGN_AXIS);

@@ -1,4 +1,4 @@
-use super::{change, cycle, frame, hex, request, worked_journal, worked_write, write_frame, Broken};
+use super::{change, cycle, frame, hex, merged, record, request, worked_journal, worked_write, write_frame, Broken};
 use crate::replay;
 use std::io::{self, Read};
 
@@ -60,11 +60,53 @@ fn refused_cycles_and_empty_replies() {
 }
 
 #[test]
+fn merged_calls() {
+    let fetch = hex("5E 00 2F F0");
+    let journal = [
+        merged(1, &worked_write()),
+        merged(1, &worked_write()),
+        frame(1, &fetch),
+        merged(2, &worked_write()),
+        frame(1, &worked_write()),
+        merged(1, &worked_write()),
+        merged(1, &fetch),
+        frame(1, &fetch),
+        merged(16, &write_frame(&request(5, 16, &["10 01 03 C5 00 01"]))),
+        merged(16, &write_frame(&change(1, 16, &[("10 01 26 AC 00 00", "42 01 00 05")]))),
+    ]
+    .concat();
+    let expected = "\
+e 1 1 5E002F080782010144010002
+e 1 1 5E002F080782010144010002
+f 1 0 DE80B500
+e 2 0 DF80B600
+f 1 1 5F002F10
+e 1 0 DF80B500
+e 1 0 -
+f 1 0 5E002F080782010144010002
+e 16 0 5E002F080501100141012900
+e 16 1 5E002F0401021001
+";
+    assert_eq!(run(&journal), expected);
+}
+
+#[test]
+fn refused_merged_calls() {
+    assert_eq!(run(&merged(17, &worked_write())), "e 17 0 -\n");
+    assert_eq!(run(&merged(0, &hex("5E 00 2F F0"))), "e 0 0 -\n");
+    assert_eq!(run(&merged(255, &[])), "e 255 0 -\n");
+    assert_eq!(run(&merged(1, &[])), "e 1 0 -\n");
+    assert_eq!(run(&merged(1, &hex("5E 01 2F F0"))), "e 1 0 -\n", "a read is 4, whatever its slot");
+    assert_eq!(run(&merged(1, &hex("5F 01 2F F0"))), "e 1 0 DF80B200\n");
+    assert_eq!(run(&merged(1, &[0x5F; 244])), "e 1 0 DF80B200\n");
+}
+
+#[test]
 fn bad_records_end_the_run() {
     let good = cycle(2, 0, 0, 0, 0, 0);
     let line = "c 2 S1 0340 0\n";
     let [cycle_body, frame_body] = [&good[1..], &frame(1, &worked_write())[1..]];
-    for kind in (0..=255u8).filter(|kind| *kind != 1 && *kind != 2) {
+    for kind in (0..=255u8).filter(|kind| !(1..=3).contains(kind)) {
         for body in [cycle_body, frame_body] {
             assert_eq!(run(&[&good[..], &[kind], body, &good].concat()), format!("{line}bad\n"), "kind {kind}");
         }
@@ -72,29 +114,30 @@ fn bad_records_end_the_run() {
     for length in 1..11 {
         assert_eq!(run(&[&good[..], &good[..length]].concat()), format!("{line}bad\n"));
     }
-    let long = frame(1, &worked_write());
-    for length in 1..247 {
-        assert_eq!(run(&long[..length]), "bad\n");
+    for long in [frame(1, &worked_write()), merged(1, &worked_write())] {
+        for length in 1..247 {
+            assert_eq!(run(&[&good[..], &long[..length]].concat()), format!("{line}bad\n"));
+        }
     }
 }
 
 #[test]
 fn bad_frame_bodies() {
     let good = cycle(2, 0, 0, 0, 0, 0);
-    for farm in [0, 1, 17, 255] {
-        let mut record = frame(farm, &worked_write());
-        record[246] = 1;
-        assert_eq!(run(&[record, good.clone()].concat()), "bad\n", "a byte past the frame");
-        let mut record = frame(farm, &worked_write());
-        record[2] = 19;
-        assert_eq!(run(&record), "bad\n", "the byte just past the frame");
+    let set = |mut record: Vec<u8>, at: usize, byte: u8| {
+        record[at] = byte;
+        [record, good.clone()].concat()
+    };
+    for (kind, farm) in [2, 3].into_iter().flat_map(|kind| [0, 1, 17, 255].map(|farm| (kind, farm))) {
+        let whole = record(kind, farm, &worked_write());
+        assert_eq!(run(&set(whole.clone(), 246, 1)), "bad\n", "a byte past the frame");
+        assert_eq!(run(&set(whole, 2, 19)), "bad\n", "the byte just past the frame");
         for length in 245..=255 {
-            let mut record = frame(farm, &[]);
-            record[2] = length;
-            assert_eq!(run(&[record, good.clone()].concat()), "bad\n");
+            assert_eq!(run(&set(record(kind, farm, &[]), 2, length)), "bad\n");
         }
     }
     assert_eq!(run(&frame(1, &[0; 244])), "f 1 0 -\n", "244 bytes may be a frame");
+    assert_eq!(run(&merged(1, &[0; 244])), "e 1 0 -\n", "244 bytes may be a frame");
 }
 
 #[test]
@@ -147,12 +190,13 @@ f 1 0 DF80B800
 fn a_full_reply() {
     let mut addresses = vec!["10 20 03 B3 00 00"; 3];
     addresses.push("10 12 03 B3 00 00");
-    let journal = [frame(1, &write_frame(&request(1, 1, &addresses))), frame(1, &hex("5E 00 2F F0"))].concat();
-    let output = run(&journal);
+    let ask = write_frame(&request(1, 1, &addresses));
+    let output = run(&[frame(1, &ask), frame(1, &hex("5E 00 2F F0")), merged(1, &ask)].concat());
     let lines: Vec<&str> = output.lines().collect();
     assert_eq!(lines[0], "f 1 0 5F002F1C");
     assert!(lines[1].starts_with("f 1 0 5E002FF0010101044220"));
     assert_eq!(lines[1].len(), "f 1 0 ".len() + 2 * 244);
+    assert_eq!(lines[2], lines[1].replace('f', "e"));
 }
 
 #[test]

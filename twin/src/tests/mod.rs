@@ -1,8 +1,9 @@
-//! Worked cases of document 01, of of document 02 and of the readings.
+//! Worked cases of document 01, of of document 02 and of the readings.
 
 mod addresses;
 mod blocks;
 mod cycles;
+mod exchanges;
 mod frames;
 mod journal;
 mod parts;
@@ -44,30 +45,63 @@ pub fn change(reference: u8, axis: u8, parameters: &[(&str, &str)]) -> Vec<u8> {
     block
 }
 
-/// Runs a frame, checks that nothing past the reply is touched, and gives the reply.
-pub fn send(station: &mut Station, farm: u32, frame: &[u8]) -> (Framed, Vec<u8>) {
+/// A frame or the merged call.
+type Call = fn(&mut Station, u32, &[u8], &mut [u8]) -> Framed;
+
+/// Makes a call, checks that nothing past the reply is touched, and gives the reply.
+fn make(call: Call, station: &mut Station, farm: u32, frame: &[u8]) -> (Framed, Vec<u8>) {
     let mut memory = [UNTOUCHED; 260];
-    let framed = station.frame(farm, frame, &mut memory);
+    let framed = call(station, farm, frame, &mut memory);
     let (reply, rest) = memory.split_at(framed.length.into());
     assert!(rest.iter().all(|byte| *byte == UNTOUCHED));
     (framed, reply.to_vec())
 }
 
-/// Runs a frame that must be refused with this number and reply, and changes nothing.
-pub fn assert_refused(station: &mut Station, farm: u32, frame: &[u8], number: u8, reply: &str) {
+/// Runs a frame and gives its reply.
+pub fn send(station: &mut Station, farm: u32, frame: &[u8]) -> (Framed, Vec<u8>) {
+    make(Station::frame, station, farm, frame)
+}
+
+/// Runs the merged call and gives its reply.
+pub fn send_and_fetch(station: &mut Station, farm: u32, frame: &[u8]) -> (Framed, Vec<u8>) {
+    make(Station::exchange, station, farm, frame)
+}
+
+fn assert_call_refused(call: Call, station: &mut Station, farm: u32, frame: &[u8], number: u8, reply: &str) {
     let before = station.clone();
-    let (framed, bytes) = send(station, farm, frame);
+    let (framed, bytes) = make(call, station, farm, frame);
     assert_eq!(bytes, hex(reply), "reply to {frame:02X?}");
     assert_eq!(framed, Framed { length: bytes.len() as u16, stored: 0, number });
     assert!(*station == before);
 }
 
-/// Writes a block that must be accepted, fetches the response, and gives the stored count and the response.
+/// Runs a frame that must be refused with this number and reply, and changes nothing; the merged call refuses it so
+/// too, but for a read that comes as far as 4.
+pub fn assert_refused(station: &mut Station, farm: u32, frame: &[u8], number: u8, reply: &str) {
+    assert_call_refused(Station::frame, station, farm, frame, number, reply);
+    let read = frame.first() == Some(&0x5E);
+    let (number, reply) = if read && number > 4 { (4, "") } else { (number, reply) };
+    assert_merged_refused(station, farm, frame, number, reply);
+}
+
+/// Runs a merged call that must be refused with this number and reply, and changes nothing.
+pub fn assert_merged_refused(station: &mut Station, farm: u32, frame: &[u8], number: u8, reply: &str) {
+    assert_call_refused(Station::exchange, station, farm, frame, number, reply);
+}
+
+/// Writes a block that must be accepted, fetches the response, and gives the stored count and the response; the merged
+/// call gives both at once and leaves the same station.
 pub fn exchange(station: &mut Station, farm: u32, block: &[u8]) -> (u16, Vec<u8>) {
+    let mut merged = station.clone();
     let (framed, reply) = send(station, farm, &write_frame(block));
     assert_eq!(reply, [0x5F, 0x00, 0x2F, block.len() as u8]);
     assert_eq!((framed.length, framed.number), (4, 0));
-    (framed.stored, fetch(station, farm))
+    let response = fetch(station, farm);
+    let expected = Framed { length: 4 + response.len() as u16, ..framed };
+    let reply = [&[0x5E, 0x00, 0x2F, response.len() as u8], &response[..]].concat();
+    assert_eq!(send_and_fetch(&mut merged, farm, &write_frame(block)), (expected, reply));
+    assert!(merged == *station);
+    (framed.stored, response)
 }
 
 /// Fetches a response with F0.
@@ -94,12 +128,22 @@ pub fn cycle(axis: u8, flags: u8, stw1: u16, nsoll: i16, nist: i16, fault: u16) 
     record
 }
 
-/// A record of kind 2.
-pub fn frame(farm: u8, frame: &[u8]) -> Vec<u8> {
-    let mut record = vec![2, farm, frame.len() as u8];
+/// A record of kind 2, a frame, or 3, the merged call.
+pub fn record(kind: u8, farm: u8, frame: &[u8]) -> Vec<u8> {
+    let mut record = vec![kind, farm, frame.len() as u8];
     record.extend_from_slice(frame);
     record.resize(1 + 246, 0);
     record
+}
+
+/// A record of kind 2.
+pub fn frame(farm: u8, frame: &[u8]) -> Vec<u8> {
+    record(2, farm, frame)
+}
+
+/// A record of kind 3.
+pub fn merged(farm: u8, frame: &[u8]) -> Vec<u8> {
+    record(3, farm, frame)
 }
 
 /// The worked journal of document 01.

@@ -1,11 +1,11 @@
 //! Random runs: the station stays well-formed, refusals change nothing, other parts are untouched, accepted blocks are of
-//! even length; the season report is what the replay's lines tell.
+//! even length; the merged call is the two calls in turn; the season report is what the replay's lines tell.
 
-use super::{cycle, frame, UNTOUCHED};
+use super::{cycle, hex, record, UNTOUCHED};
 use crate::record::FRAME_MAX;
 use crate::{
-    parse_request, parse_response, replay, report, well_formed, Counts, Item, ResponseKind, State, Station, Totals,
-    Values, AXES, COUNTS,
+    parse_request, parse_response, replay, report, well_formed, Counts, Framed, Item, ResponseKind, State, Station,
+    Totals, Values, AXES, COUNTS,
 };
 
 /// A small generator of its own (xorshift64*).
@@ -118,6 +118,68 @@ fn random_frames() {
     assert!([0, 7, 8, 9, 10, 11].iter().all(|number| seen[*number] > 20), "{seen:?}");
 }
 
+/// The calls that a merged call stands for, made in turn on the same station; where the write is refused, it alone. A
+/// read gets no further than 4.
+fn in_turn(station: &mut Station, farm: u32, frame: &[u8], reply: &mut [u8]) -> Framed {
+    if frame[0] == 0x5E {
+        let mut unseen = reply.to_vec();
+        let number = station.clone().frame(farm, frame, &mut unseen).number;
+        let number = if (1..4).contains(&number) { number } else { 4 };
+        return Framed { length: 0, stored: 0, number };
+    }
+    let written = station.frame(farm, frame, reply);
+    if written.number != 0 {
+        return written;
+    }
+    let fetched = station.frame(farm, &hex("5E 00 2F F0"), reply);
+    assert_eq!((fetched.number, fetched.stored), (0, 0), "it cannot be refused");
+    Framed { stored: written.stored, ..fetched }
+}
+
+/// A fetched reply answers the request of this write frame.
+fn assert_answers(frame: &[u8], reply: &[u8]) {
+    let request = parse_request(&frame[4..]).unwrap();
+    let response = parse_response(&reply[4..]).unwrap();
+    assert_eq!(reply[..4], [0x5E, 0x00, 0x2F, reply.len() as u8 - 4]);
+    assert_eq!((request.reference, request.axis, request.count), (response.reference, response.axis, response.count));
+}
+
+#[test]
+fn random_exchanges() {
+    let mut random = Random(0x0E5C_4A46_E5E4_D001);
+    let mut station = Station::fresh();
+    let mut seen = [0u32; 13];
+    for _ in 0..60_000 {
+        let farm = random.below(18) as u32;
+        let frame = random_frame(&mut random, farm as u8);
+        if random.one_in(4) {
+            station.frame(farm, &frame, &mut [0; 244]);
+            continue;
+        }
+        let mut before = station.clone();
+        if random.one_in(50) {
+            before.axes.iter_mut().for_each(|part| part.p930 = 0);
+        }
+        let [mut merged, mut turned] = [before.clone(), before.clone()];
+        let memory = vec![UNTOUCHED; random.pick(&[243, 244, 250, 300])];
+        let [mut reply, mut expected] = [memory.clone(), memory];
+        let framed = merged.exchange(farm, &frame, &mut reply);
+        assert_eq!(framed, in_turn(&mut turned, farm, &frame, &mut expected), "{frame:02X?}");
+        assert!(merged == turned && reply == expected, "{frame:02X?}");
+        assert!(reply[framed.length.into()..].iter().all(|byte| *byte == UNTOUCHED));
+        seen[usize::from(framed.number)] += 1;
+        if framed.number != 0 {
+            assert!(merged == before && framed.stored == 0);
+        } else {
+            assert_answers(&frame, &reply[..framed.length.into()]);
+            assert_eq!(merged.axes[farm as usize - 1].waiting, None);
+            station = merged;
+        }
+    }
+    assert!([0, 1, 2, 3, 4, 5, 6, 7, 8, 10, 11].iter().all(|number| seen[*number] > 20), "{seen:?}");
+    assert_eq!((seen[9], seen[12]), (0, 0));
+}
+
 /// A control word, and seldom a fault code.
 fn random_word(random: &mut Random) -> (u16, u16) {
     let word = random.pick(&[0x047E, 0x047F, 0x047F, 0x047F, 0x04FF, 0x0477, 0x047B]) ^ (1 << random.below(30)) as u16;
@@ -149,7 +211,7 @@ fn random_record(random: &mut Random) -> Vec<u8> {
     if random.one_in(3) {
         let mut bytes = random_frame(random, number);
         bytes.truncate(FRAME_MAX);
-        return frame(number, &bytes);
+        return record(random.pick(&[2, 2, 3]), number, &bytes);
     }
     let (word, fault) = random_word(random);
     cycle(number, random.below(5) as u8, word, random.next() as i16, random.next() as i16, fault)
@@ -180,7 +242,7 @@ fn told(lines: &str) -> Totals {
         let owner = words[1].parse::<usize>().unwrap().wrapping_sub(1);
         match words[..] {
             ["c", _, state, status, _] => tell_cycle(&mut totals[owner], &mut axes[owner], state, status),
-            ["f", _, stored, reply] if owner < AXES => {
+            ["f" | "e", _, stored, reply] if owner < AXES => {
                 totals[owner][8] += u64::from(reply == "DF80B600");
                 totals[owner][9] += stored.parse::<u64>().unwrap();
             }

@@ -1,4 +1,4 @@
-use super::{change, cycle, frame, hex, request, worked_journal, worked_write, write_frame, Broken};
+use super::{change, cycle, frame, hex, merged, request, worked_journal, worked_write, write_frame, Broken};
 use crate::season::report_from;
 use crate::{count, report, Counts, Journal, Next, Station, Totals, AXES, COUNTS};
 use std::io::Read;
@@ -74,15 +74,15 @@ fn a_bad_record_ends_with_the_totals_so_far() {
     let before = worked_journal();
     let after = words(16, &TO_S4);
     let so_far = totals(&[(1, [1, 1, 1, 1, 0, 0, 1, 0, 0, 1]), (2, [0, 0, 0, 0, 0, 0, 0, 0, 1, 0])]);
-    let past_the_frame = [frame(1, &[])[..246].to_vec(), vec![1]].concat();
-    let cut = [cycle(1, 0, 0, 0, 0, 0)[..10].to_vec(), frame(1, &[])[..246].to_vec()];
-    let bad = [vec![0], past_the_frame].into_iter().chain(cut);
-    for bad in bad {
+    let past_the_frame = [frame(1, &[]), merged(1, &[])].map(|record| [&record[..246], &[1]].concat());
+    let cut =
+        [cycle(1, 0, 0, 0, 0, 0), frame(1, &[]), merged(1, &[])].map(|record| record[..record.len() - 1].to_vec());
+    for bad in [vec![0]].into_iter().chain(past_the_frame).chain(cut) {
         assert_eq!(run(&bad), text(&NONE, "bad\n"), "{bad:02X?}");
         assert_eq!(run(&[&before[..], &bad].concat()), text(&so_far, "bad\n"), "{bad:02X?}");
     }
     let [cycle_body, frame_body] = [&after[1..11], &frame(1, &worked_write())[1..]];
-    for kind in [0, 3, 4, 255] {
+    for kind in [0, 4, 5, 255] {
         for body in [cycle_body, frame_body] {
             let journal = [&before[..], &[kind], body, &after].concat();
             assert_eq!(run(&journal), text(&so_far, "bad\n"), "kind {kind}, and nothing is read after it");
@@ -119,7 +119,8 @@ fn nobody_has_counts() {
     for number in [0, 17, 255] {
         let own = write_frame(&change(1, number, &[("10 01 26 AC 00 00", "42 01 0005")]));
         let frames = [frame(number, &worked_write()), frame(number, &own), frame(number, &[])].concat();
-        assert_counts(&[words(number, &TO_S4), frames].concat(), &[]);
+        let calls = [merged(number, &worked_write()), merged(number, &own), merged(number, &[])].concat();
+        assert_counts(&[words(number, &TO_S4), frames, calls].concat(), &[]);
     }
     assert_counts(&words(16, &[0x047E]), &[(16, [0, 1, 0, 0, 0, 0, 0, 0, 0, 0])]);
 }
@@ -173,6 +174,29 @@ fn stored_elements() {
     assert_counts(&frame(3, &marks), &[(3, [0, 0, 0, 0, 0, 0, 0, 0, 0, 2])]);
 }
 
+#[test]
+fn merged_calls_count_as_frames_do() {
+    let one = [0, 0, 0, 0, 0, 0, 0, 0, 0, 1];
+    let denied = [0, 0, 0, 0, 0, 0, 0, 0, 1, 0];
+    let journal = [merged(1, &worked_write()), merged(2, &worked_write())].concat();
+    assert_counts(&journal, &[(1, one), (2, denied)]);
+    let twice = [merged(3, &eight_elements(3)), merged(3, &eight_elements(3))].concat();
+    assert_counts(&twice, &[(3, [0, 0, 0, 0, 0, 0, 0, 0, 0, 16])]);
+    for axis in [0, 1, 15, 17, 255] {
+        assert_counts(&merged(16, &eight_elements(axis)), &[(16, denied)]);
+    }
+    let ask = write_frame(&request(1, 16, &["10 01 03 A2 00 00"]));
+    let read = [&[0x5E], &eight_elements(1)[1..]].concat();
+    assert_counts(&[merged(16, &ask), merged(16, &read), merged(16, &[])].concat(), &[]);
+}
+
+#[test]
+fn merged_calls_refused_by_a_waiting_response_count_nothing() {
+    let waiting = frame(3, &eight_elements(3));
+    let journal = [&waiting[..], &merged(3, &eight_elements(3)), &merged(3, &eight_elements(1))].concat();
+    assert_counts(&journal, &[(3, [0, 0, 0, 0, 0, 0, 0, 0, 0, 8])]);
+}
+
 /// A journal that leads to a record of farm 1, that record, and what it counts.
 fn steps() -> Vec<(Vec<u8>, Vec<u8>, Counts)> {
     let [s2, s3, s4] = TO_S4;
@@ -191,8 +215,11 @@ fn steps() -> Vec<(Vec<u8>, Vec<u8>, Counts)> {
         (vec![], frame(1, &eight_elements(2)), [0, 0, 0, 0, 0, 0, 0, 0, 1, 0]),
         (vec![], frame(1, &worked_write()), [0, 0, 0, 0, 0, 0, 0, 0, 0, 1]),
         (vec![], frame(1, &eight_elements(1)), [0, 0, 0, 0, 0, 0, 0, 0, 0, 8]),
+        (vec![], merged(1, &eight_elements(2)), [0, 0, 0, 0, 0, 0, 0, 0, 1, 0]),
+        (merged(1, &worked_write()), merged(1, &eight_elements(1)), [0, 0, 0, 0, 0, 0, 0, 0, 0, 8]),
         (vec![], cycle(1, 4, s2, 0, 0, 0), [0; COUNTS]),
         (frame(1, &eight_elements(1)), frame(1, &eight_elements(1)), [0; COUNTS]),
+        (frame(1, &eight_elements(1)), merged(1, &eight_elements(1)), [0; COUNTS]),
     ]
 }
 
