@@ -12,7 +12,7 @@
 #include <string.h>
 
 enum { GUARD = 64, PATTERN = 0xA5, MOST = 1 << 20 };
-enum { SIZE, FRESH, CYCLE, FRAME };
+enum { SIZE, FRESH, CYCLE, FRAME, EXCHANGE };
 
 /* A memory to lend, with a guard on both sides. */
 struct lent {
@@ -82,6 +82,7 @@ static void serve(unsigned kind)
     size_t frame_len = number(4), reply_len = number(4);
     uint16_t stw1 = (uint16_t)number(2), nsoll = (uint16_t)number(2), nist = (uint16_t)number(2), fault = (uint16_t)number(2);
     struct lent station = lend(&rooms[0], station_len), frame = lend(&rooms[1], frame_len), reply = lend(&rooms[2], reply_len);
+    /* One of the two is answered, the other stays 0. */
     struct llinkhiro_cycled c = { 0, 0, 0, 0 };
     struct llinkhiro_framed f = { 0, 0, 0 };
 
@@ -94,6 +95,8 @@ static void serve(unsigned kind)
         c = llinkhiro_cycle(station.at, station.len, owner, flags, stw1, (int16_t)nsoll, (int16_t)nist, fault);
     else if (kind == FRAME)
         f = llinkhiro_frame(station.at, station.len, owner, frame.at, frame.len, reply.at, reply.len);
+    else if (kind == EXCHANGE)
+        f = llinkhiro_exchange(station.at, station.len, owner, frame.at, frame.len, reply.at, reply.len);
     untouched(station);
     untouched(frame);
     untouched(reply);
@@ -103,7 +106,7 @@ static void serve(unsigned kind)
     put(f.length, 2);
     put(f.stored, 2);
     put(c.state, 1);
-    put(kind == FRAME ? f.number : c.number, 1);
+    put(c.number | f.number, 1);
     give(station.at, station.len);
     give(reply.at, reply.len);
     fflush(stdout);

@@ -20,7 +20,7 @@ def bytes_of(words):
 
 def expand(line):
     words = line.split()
-    if words[0] == 'f' and words[3:] != ['-']:
+    if words[0] in ('e', 'f') and words[3:] != ['-']:
         words[3:] = [bytes_of(words[3:]).hex().upper()]
     return ' '.join(words)
 

@@ -2,6 +2,7 @@
 
 use crate::layout::{Block, Values, ADDRESS, BYTE_FORMATS, HEADER};
 use crate::random::Random;
+use crate::sending::{Sending, READ};
 use twin::{Address, Parameter, Type, BLOCK_MAX};
 
 /// What a frame was made to be; damage may have changed it since.
@@ -24,17 +25,40 @@ const WRITABLE: &[u16] = KNOWN.split_at(8).1;
 const UNKNOWN: [u16; 14] = [0, 1, 929, 931, 943, 945, 946, 948, 964, 9899, 9902, 10104, 30005, 65535];
 const FORMATS: [u8; 9] = [0x41, 2, 5, 0x42, 3, 6, 0x43, 4, 7];
 
-/// A frame of the farm of this axis, which may have a response of this length waiting.
-pub fn frame(random: &mut Random, axis: u8, waiting: Option<usize>) -> (Kind, Vec<u8>) {
+/// A frame of the farm of this axis, which may have a response of this length waiting, and how it is sent.
+pub fn frame(random: &mut Random, axis: u8, waiting: Option<usize>) -> (Sending, Kind, Vec<u8>) {
+    // A response that waits refuses every merged call, and is to be fetched.
+    let merged = random.one_in(if waiting.is_some() { 8 } else { 3 });
+    let sending = if merged { Sending::Merged } else { Sending::Alone };
     if random.one_in(40) {
-        return (Kind::Free, free(random));
+        return (sending, Kind::Free, free(random));
     }
-    let reads = random.percent(if waiting.is_some() { 80 } else { 8 });
-    let (kind, mut frame) = if reads { (Kind::Read, read(random, waiting.unwrap_or(8))) } else { write(random, axis) };
+    let reads = random.percent(if waiting.is_some() && !merged { 80 } else { 8 });
+    let (kind, mut frame) = match (reads, sending) {
+        (false, _) => write(random, axis),
+        (true, Sending::Alone) => (Kind::Read, read(random, waiting.unwrap_or(8))),
+        (true, Sending::Merged) => (Kind::Read, any_read(random, axis, waiting.unwrap_or(8))),
+    };
     if random.one_in(9) {
         damage(random, &mut frame);
     }
-    (kind, frame)
+    (sending, kind, frame)
+}
+
+/// A read where none is taken: right, cut, of another slot or index, or a write but for its first byte.
+fn any_read(random: &mut Random, axis: u8, waiting: usize) -> Vec<u8> {
+    let mut frame = read(random, waiting);
+    match random.below(8) {
+        0 => frame[1] = 1 + random.below(255) as u8,
+        1 => frame[2] = random.pick(&[0, 46, 48, 255]),
+        2 => frame.truncate(1 + random.below(3)),
+        3 => {
+            frame = write(random, axis).1;
+            frame[0] = READ;
+        }
+        _ => {}
+    }
+    frame
 }
 
 /// A read, mostly of enough bytes.
@@ -47,7 +71,7 @@ fn read(random: &mut Random, waiting: usize) -> Vec<u8> {
         10 => waiting.wrapping_add(1) as u8,
         _ => random.byte(),
     };
-    vec![0x5E, 0, 47, wanted]
+    vec![READ, 0, 47, wanted]
 }
 
 fn write(random: &mut Random, axis: u8) -> (Kind, Vec<u8>) {

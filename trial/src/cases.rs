@@ -6,13 +6,15 @@
 //! - `case NAME` opens a case; `source`, `printed` and `note` are for the reader and are skipped;
 //! - `cycle AXIS FLAGS STW1 NSOLL NIST FAULT -> STATE ZSW1 RPM`, or `-> x NUMBER` for a refused one;
 //! - `frame FARM BYTES -> NUMBER STORED REPLY`; bytes in hex, `N*BYTES` repeats, `-` is none;
-//! - `reply N`: the reply memory of the frames that follow has N bytes (244 at first);
+//! - `exchange FARM BYTES -> NUMBER STORED REPLY`, the merged call, in the same way;
+//! - `reply N`: the reply memory of the frames and merged calls that follow has N bytes (244 at first);
 //! - `memory N`: the memory lent from here on is N bytes longer than a station's (-1: one shorter);
 //! - `fill K BYTE`: every byte of the K-th of the 16 equal parts becomes BYTE;
 //! - `fresh -> NUMBER`: the station is made fresh again;
 //! - `loop N` .. `end`: the steps between are played N times.
 
 use crate::pair::hex;
+use crate::sending::Sending;
 use std::fmt;
 
 /// Equal parts of a station's memory.
@@ -39,7 +41,7 @@ pub struct Line {
 #[allow(missing_docs)]
 pub enum Step {
     Cycle { input: Cycle, wanted: CycleAnswer },
-    Frame { farm: u32, frame: Vec<u8>, wanted: FrameAnswer },
+    Frame { farm: u32, sending: Sending, frame: Vec<u8>, wanted: FrameAnswer },
     Fresh { number: u8 },
     Reply { size: usize },
     Memory { longer: isize },
@@ -68,7 +70,7 @@ pub struct CycleAnswer {
     pub number: u8,
 }
 
-/// What a frame must answer.
+/// What a frame or a merged call must answer.
 #[allow(missing_docs)]
 #[derive(PartialEq)]
 pub struct FrameAnswer {
@@ -173,14 +175,13 @@ fn read_step(key: &str, rest: &str) -> Result<Step, String> {
         Some(at) => (&words[..at], &words[at + 1..]),
         None => (&words[..], &[][..]),
     };
-    if arrow.is_some() != matches!(key, "cycle" | "frame" | "fresh") {
+    if arrow.is_some() != matches!(key, "cycle" | "frame" | "exchange" | "fresh") {
         return Err("\"->\" is missing or out of place".to_string());
     }
     match (key, asked) {
         ("cycle", asked) => Ok(Step::Cycle { input: read_cycle(asked)?, wanted: read_cycle_answer(wanted)? }),
-        ("frame", [farm, frame @ ..]) => {
-            Ok(Step::Frame { farm: read_number(farm)?, frame: read_bytes(frame)?, wanted: read_frame_answer(wanted)? })
-        }
+        ("frame", asked) => read_frame(Sending::Alone, asked, wanted),
+        ("exchange", asked) => read_frame(Sending::Merged, asked, wanted),
         ("fresh", []) => match wanted {
             [number] => Ok(Step::Fresh { number: read_number(number)? }),
             _ => Err("expected one number".to_string()),
@@ -196,6 +197,12 @@ fn read_step(key: &str, rest: &str) -> Result<Step, String> {
         },
         _ => Err("unknown key or wrong number of fields".to_string()),
     }
+}
+
+fn read_frame(sending: Sending, asked: &[&str], wanted: &[&str]) -> Result<Step, String> {
+    let [farm, frame @ ..] = asked else { return Err("expected a farm and its frame".to_string()) };
+    let (farm, frame) = (read_number(farm)?, read_bytes(frame)?);
+    Ok(Step::Frame { farm, sending, frame, wanted: read_frame_answer(wanted)? })
 }
 
 fn read_cycle(words: &[&str]) -> Result<Cycle, String> {
@@ -280,5 +287,31 @@ fn read_group(group: &str) -> Option<Vec<u8>> {
         [] => None,
         digits if digits.len() % 2 == 1 => None,
         digits => Some(digits.chunks(2).map(|pair| pair[0] * 16 + pair[1]).collect()),
+    }
+}
+
+#[cfg(test)]
+mod tests {
+    use super::*;
+
+    #[test]
+    fn a_frame_and_a_merged_call() {
+        let text = "case both\nframe 1 5E002F F0 -> 8 0 DE80B500\nexchange 17 2*5E 00 -> 1 0 -\n";
+        let cases = read_cases(text).unwrap();
+        let told = |line: &Line| match &line.step {
+            Step::Frame { farm, sending, frame, wanted } => (*farm, *sending, frame.clone(), wanted.to_string()),
+            _ => panic!("line {}", line.number),
+        };
+        let read: Vec<_> = cases[0].steps.iter().map(told).collect();
+        let frame = (1, Sending::Alone, vec![0x5E, 0, 0x2F, 0xF0], "8 0 DE80B500".to_string());
+        let merged = (17, Sending::Merged, vec![0x5E, 0x5E, 0], "1 0 -".to_string());
+        assert_eq!(read, [frame, merged]);
+    }
+
+    #[test]
+    fn merged_calls_that_are_cut() {
+        for line in ["exchange 1 5F002F00", "exchange 1 -> 4 0 -", "exchange -> 4 0 -", "exchange 1 5F -> 4 0"] {
+            assert!(read_cases(&format!("case cut\n{line}\n")).is_err(), "{line}");
+        }
     }
 }

@@ -18,7 +18,7 @@ pub struct Cycled {
     pub number: u8,
 }
 
-/// The answer of a frame.
+/// The answer of a frame or of the merged call.
 #[derive(Clone, Copy, Debug, PartialEq, Eq)]
 pub struct Framed {
     /// Bytes of the reply, 0 for an empty one.
@@ -33,6 +33,7 @@ const SIZE: u8 = 0;
 const FRESH: u8 = 1;
 const CYCLE: u8 = 2;
 const FRAME: u8 = 3;
+const EXCHANGE: u8 = 4;
 
 /// What is sent of a call, beside the memories.
 #[derive(Default)]
@@ -135,6 +136,15 @@ pub fn cycle(station: &mut [u8], axis: u32, flags: u32, stw1: u16, nsoll: i16, n
 
 /// Works one frame of a farm.
 pub fn frame(station: &mut [u8], farm: u32, frame: &[u8], reply: &mut [u8]) -> Framed {
+    send(FRAME, station, farm, frame, reply)
+}
+
+/// Works one write of a farm and fetches its response.
+pub fn exchange(station: &mut [u8], farm: u32, frame: &[u8], reply: &mut [u8]) -> Framed {
+    send(EXCHANGE, station, farm, frame, reply)
+}
+
+fn send(kind: u8, station: &mut [u8], farm: u32, frame: &[u8], reply: &mut [u8]) -> Framed {
     let asked = Asked { owner: farm, ..Asked::default() };
-    call(FRAME, &asked, station, frame, reply).framed
+    call(kind, &asked, station, frame, reply).framed
 }

@@ -1,6 +1,7 @@
 //! What a run of calls has met of fill bytes: right and wrong ones in changes, in the responses that were written and
 //! fetched, and in those that a part was made up with.
 
+use crate::counts::{named, unmet};
 use crate::layout::{Block, Values, ADDRESS, BYTE_FORMATS, HEADER};
 use std::fmt::{self, Display, Formatter};
 use twin::{well_formed, Axis, Parameter, Waiting, BLOCK_MAX};
@@ -79,7 +80,7 @@ impl Fills {
 
     /// This response was fetched.
     pub fn fetched(&mut self, response: &[u8]) {
-        let filled = Block::of_response(response).is_some_and(|block| block.values.iter().any(Values::is_filled));
+        let filled = Block::of_response(response).is_some_and(|block| block.is_filled());
         self.met[FETCHED] += u64::from(filled);
     }
 
@@ -104,16 +105,16 @@ impl Fills {
 
     /// What no call has met.
     pub fn missing(&self) -> Vec<String> {
-        let named = |counts: &[u64], names: &[&str], what: String| {
-            let unmet = names.iter().zip(counts).filter(|(_, times)| **times == 0);
-            unmet.map(|(name, _)| format!("{what}: {name}")).collect::<Vec<_>>()
+        let mut missing = Vec::new();
+        let mut want = |counts: &[u64], names: &[&str], what: String| {
+            missing.extend(unmet(counts, names).map(|name| format!("{what}: {name}")));
         };
         let faults = FAULTS.map(|(_, name)| name);
-        let mut missing = named(&self.met, &MET, "fill byte".into());
-        missing.extend(named(&self.ill_formed, &faults, "fill byte in a response refused with 2".into()));
+        want(&self.met, &MET, "fill byte".into());
+        want(&self.ill_formed, &faults, "fill byte in a response refused with 2".into());
         for (format, (taken, refused)) in BYTE_FORMATS.iter().zip(self.taken.iter().zip(&self.refused)) {
-            missing.extend(named(taken, &TAKEN, format!("values of format {format:02X} taken")));
-            missing.extend(named(refused, &faults, format!("fill byte of format {format:02X} refused with 10")));
+            want(taken, &TAKEN, format!("values of format {format:02X} taken"));
+            want(refused, &faults, format!("fill byte of format {format:02X} refused with 10"));
         }
         missing
     }
@@ -121,10 +122,6 @@ impl Fills {
 
 impl Display for Fills {
     fn fmt(&self, f: &mut Formatter) -> fmt::Result {
-        let named = |counts: &[u64], names: &[&str]| {
-            let each = names.iter().zip(counts).map(|(name, times)| format!("{name} {times}"));
-            each.collect::<Vec<_>>().join(", ")
-        };
         let faults = FAULTS.map(|(_, name)| name);
         writeln!(f, "fill bytes {}", named(&self.met, &MET))?;
         writeln!(f, "           in a response that waits, number 2: {}", named(&self.ill_formed, &faults))?;
@@ -150,6 +147,11 @@ fn too_long_by_fills(request: &Block, response: &Block) -> bool {
     let fills = before.iter().filter(|values| values.is_filled()).count();
     let start = HEADER + before.iter().map(Values::length).sum::<usize>() - fills;
     start + length <= BLOCK_MAX - ERROR * (response.values.len() - at - 1)
+}
+
+/// Whether a fill byte alone keeps a request from being readable.
+pub fn is_misfilled(request: &[u8]) -> bool {
+    fault_of_request(request).is_some()
 }
 
 fn fault_of_request(block: &[u8]) -> Option<(u8, Fault)> {

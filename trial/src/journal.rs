@@ -2,6 +2,7 @@
 
 use crate::face;
 use crate::packets::Exchange;
+use crate::sending::Sending;
 use crate::words::Inputs;
 use std::io::{self, ErrorKind, Read};
 use twin::REPLY_MIN;
@@ -15,8 +16,8 @@ pub const FRAME_ROOM: usize = 244;
 pub enum Record {
     /// Kind 1: the inputs of a cycle of this axis.
     Cycle(u8, Inputs),
-    /// Kind 2: a frame of this farm.
-    Frame(u8, Vec<u8>),
+    /// Kinds 2 and 3: a frame of this farm, sent so.
+    Frame(u8, Sending, Vec<u8>),
 }
 
 /// What comes next in a journal.
@@ -38,7 +39,8 @@ pub fn next(input: &mut impl Read) -> io::Result<Next> {
     }
     let record = match kind {
         [1] => cycle(input)?,
-        [2] => frame(input)?,
+        [2] => frame(input, Sending::Alone)?,
+        [3] => frame(input, Sending::Merged)?,
         _ => None,
     };
     Ok(record.map_or(Next::Bad, Next::Record))
@@ -61,12 +63,12 @@ fn cycle(input: &mut impl Read) -> io::Result<Option<Record>> {
     Ok(whole.then_some(Record::Cycle(body[0], inputs)))
 }
 
-fn frame(input: &mut impl Read) -> io::Result<Option<Record>> {
+fn frame(input: &mut impl Read, sending: Sending) -> io::Result<Option<Record>> {
     let mut body = [0; 2 + FRAME_ROOM];
     let whole = fill(input, &mut body)?;
     let [farm, length, room @ ..] = body;
     let frame = room.split_at_checked(length.into()).filter(|(_, past)| past.iter().all(|byte| *byte == 0));
-    Ok(frame.filter(|_| whole).map(|(frame, _)| Record::Frame(farm, frame.to_vec())))
+    Ok(frame.filter(|_| whole).map(|(frame, _)| Record::Frame(farm, sending, frame.to_vec())))
 }
 
 /// A fresh station of the library.
@@ -76,18 +78,19 @@ pub fn station() -> Vec<u8> {
     station
 }
 
-/// Plays the record with this number, counted from 1; a frame's is an exchange.
-pub fn play(station: &mut [u8], record: Record, number: u64) -> Option<Exchange> {
+/// Plays the record with this number, counted from 1: the exchanges that it was, none for a cycle.
+pub fn play(station: &mut [u8], record: Record, number: u64) -> Vec<Exchange> {
     match record {
         Record::Cycle(axis, i) => {
             face::cycle(station, axis.into(), i.flags, i.stw1, i.nsoll, i.nist, i.fault);
-            None
+            Vec::new()
         }
-        Record::Frame(farm, frame) => {
+        Record::Frame(farm, sending, frame) => {
             let mut reply = vec![0; REPLY_MIN];
-            let framed = face::frame(station, farm.into(), &frame, &mut reply);
+            let framed = sending.ours(station, farm.into(), &frame, &mut reply);
             reply.truncate(framed.length.into());
-            Some(Exchange { record: number, farm, frame, number: framed.number, stored: framed.stored, reply })
+            let (record, number, stored) = (number, framed.number, framed.stored);
+            Exchange { record, farm, frame, number, stored, reply }.by(sending)
         }
     }
 }
@@ -96,31 +99,38 @@ pub fn play(station: &mut [u8], record: Record, number: u64) -> Option<Exchange>
 mod tests {
     use super::*;
 
-    fn frame_record(length: u8, frame: &[u8]) -> Vec<u8> {
-        let mut record = vec![2, 16, length];
+    fn frame_record(kind: u8, length: u8, frame: &[u8]) -> Vec<u8> {
+        let mut record = vec![kind, 16, length];
         record.extend(frame);
         record.resize(3 + FRAME_ROOM, 0);
         record
     }
 
     #[test]
-    fn a_cycle_a_frame_and_the_end() {
+    fn a_cycle_a_frame_a_merged_call_and_the_end() {
         let mut journal = vec![1, 3, 2, 0x04, 0x7F, 0x20, 0x00, 0xFF, 0xFF, 0x00, 0x09];
-        journal.extend(frame_record(4, &[0x5E, 0, 47, 0xF0]));
+        journal.extend(frame_record(2, 4, &[0x5E, 0, 47, 0xF0]));
+        journal.extend(frame_record(3, 4, &[0x5F, 0, 47, 0]));
         let mut input = journal.as_slice();
         let Ok(Next::Record(Record::Cycle(3, i))) = next(&mut input) else { panic!("no cycle") };
         assert_eq!((i.flags, i.stw1, i.nsoll, i.nist, i.fault), (2, 0x047F, 0x2000, -1, 9));
-        let Ok(Next::Record(Record::Frame(16, frame))) = next(&mut input) else { panic!("no frame") };
+        let Ok(Next::Record(Record::Frame(16, Sending::Alone, frame))) = next(&mut input) else { panic!("no frame") };
         assert_eq!(frame, [0x5E, 0, 47, 0xF0]);
+        let Ok(Next::Record(Record::Frame(16, Sending::Merged, frame))) = next(&mut input) else {
+            panic!("no merged call")
+        };
+        assert_eq!(frame, [0x5F, 0, 47, 0]);
         assert!(matches!(next(&mut input), Ok(Next::End)));
     }
 
     #[test]
     fn bad_records() {
-        let cut = &frame_record(4, &[0x5E, 0, 47, 0xF0])[..246];
-        let bad = [&[0][..], &[3], &[1, 1, 0], &[2], cut, &frame_record(245, &[]), &frame_record(3, &[1, 2, 3, 4])];
-        for mut journal in bad {
-            assert!(matches!(next(&mut journal), Ok(Next::Bad)), "{journal:02X?}");
+        for kind in [2, 3] {
+            let cut = &frame_record(kind, 4, &[0x5E, 0, 47, 0xF0])[..246];
+            let (long, behind) = (frame_record(kind, 245, &[]), frame_record(kind, 3, &[1, 2, 3, 4]));
+            for mut journal in [&[0][..], &[4], &[1, 1, 0], &[kind], cut, &long, &behind] {
+                assert!(matches!(next(&mut journal), Ok(Next::Bad)), "{journal:02X?}");
+            }
         }
     }
 }

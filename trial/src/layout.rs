@@ -117,6 +117,11 @@ impl Block {
         bytes
     }
 
+    /// Whether a fill byte is in it.
+    pub fn is_filled(&self) -> bool {
+        self.values.iter().any(Values::is_filled)
+    }
+
     /// The value blocks of byte formats, in their order.
     pub fn byte_blocks(&self) -> Vec<ByteBlock> {
         let mut end = HEADER + ADDRESS * self.addresses.len();

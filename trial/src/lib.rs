@@ -9,15 +9,18 @@
 
 pub mod blocks;
 pub mod cases;
+pub mod counts;
 pub mod dissected;
 pub mod face;
 pub mod fills;
 pub mod journal;
 pub mod layout;
 pub mod meaning;
+pub mod merged;
 pub mod packets;
 pub mod pair;
 pub mod parts;
 pub mod random;
+pub mod sending;
 pub mod tally;
 pub mod words;

@@ -136,6 +136,11 @@ fn waiting(part: &[u8; PART]) -> Result<Option<Waiting>, Unmeant> {
     }
 }
 
+/// The response that waits in a part; empty where none does, or where its length is none that a response has.
+pub fn response_of(axis: &Axis) -> &[u8] {
+    axis.waiting.as_ref().and_then(|waiting| waiting.bytes.get(..waiting.length)).unwrap_or_default()
+}
+
 fn bytes<const N: usize>(part: &[u8; PART], at: usize) -> [u8; N] {
     std::array::from_fn(|i| part[at + i])
 }

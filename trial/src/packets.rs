@@ -26,10 +26,15 @@
 //! Farm k (0 to 255, as sent) has the address 10.47.1.k, the hardware address 02:00:00:00:01:k and the SubslotNumber k; the
 //! box has 10.47.0.1 and 02:00:00:00:00:01. The axis that a block names is Wireshark's DO.
 //!
+//! A merged call that was done is the two exchanges that it stands for: its write, acknowledged, with the elements stored;
+//! and the fetch 5E 00 2F F0 with the response. One that was refused is its frame alone, with the refusal: a read too.
+//!
 //! Cycles are no frames and are not in a capture. Times are made up: record n of a journal, cycles counted too, is sent n
-//! milliseconds after the start of 1970 and answered half a millisecond later. n is also the DCE/RPC sequence number, and
-//! its low 16 bits are the SeqNumber.
+//! milliseconds after the start of 1970, and its packets part that millisecond in equal steps: a frame is answered half a
+//! millisecond later, the write of a merged call a quarter, and then its fetch follows. n is also the DCE/RPC sequence
+//! number, and its low 16 bits are the SeqNumber, in all packets of the record.
 
+use crate::sending::{Sending, FETCH, READ};
 use std::io::{self, Write};
 
 /// What a farm sent and what it was answered.
@@ -49,7 +54,23 @@ pub struct Exchange {
     pub reply: Vec<u8>,
 }
 
-const READ: u8 = 0x5E;
+impl Exchange {
+    /// The exchanges that a call stands for, of which this has the frame and the answer.
+    pub fn by(self, sending: Sending) -> Vec<Exchange> {
+        match (sending, self.number) {
+            (Sending::Merged, 0) => self.parted().into(),
+            _ => vec![self],
+        }
+    }
+
+    /// The write of a merged call that was done, and its fetch.
+    fn parted(self) -> [Exchange; 2] {
+        let acknowledgement = vec![WRITE, 0, INDEX, self.frame[3]];
+        let fetch = Exchange { frame: FETCH.to_vec(), stored: 0, ..self.clone() };
+        [Exchange { reply: acknowledgement, ..self }, fetch]
+    }
+}
+
 const WRITE: u8 = 0x5F;
 const INDEX: u8 = 47;
 /// PROFIdrive's parameter access, and the index of frames that have none.
@@ -236,12 +257,16 @@ impl<W: Write> Capture<W> {
         Ok(Capture { out })
     }
 
-    /// Adds the two packets of an exchange.
-    pub fn add(&mut self, exchange: &Exchange) -> io::Result<()> {
-        let farm = farm_end(exchange.farm);
-        let sent = 1000 * exchange.record;
-        self.packet(sent, &on_the_wire(&farm, &BOX_END, &request(exchange)))?;
-        self.packet(sent + 500, &on_the_wire(&BOX_END, &farm, &response(exchange)))
+    /// Adds the exchanges of a record, each as two packets.
+    pub fn add(&mut self, exchanges: &[Exchange]) -> io::Result<()> {
+        const RECORD: u64 = 1000;
+        for (at, exchange) in (0..).zip(exchanges) {
+            let time = |packet: u64| RECORD * exchange.record + packet * RECORD / (2 * exchanges.len() as u64);
+            let farm = farm_end(exchange.farm);
+            self.packet(time(2 * at), &on_the_wire(&farm, &BOX_END, &request(exchange)))?;
+            self.packet(time(2 * at + 1), &on_the_wire(&BOX_END, &farm, &response(exchange)))?;
+        }
+        Ok(())
     }
 
     fn packet(&mut self, microseconds: u64, bytes: &[u8]) -> io::Result<()> {
@@ -263,6 +288,7 @@ impl<W: Write> Capture<W> {
 mod tests {
     use super::*;
 
+    const HEADERS: usize = 14 + 20 + 8;
     const BLOCK: usize = 80 + 20 + 64;
 
     fn exchange(frame: &[u8], number: u8, reply: &[u8]) -> Exchange {
@@ -280,7 +306,7 @@ mod tests {
     fn headers_agree_with_what_follows() {
         let packet = on_the_wire(&farm_end(2), &BOX_END, &request(&exchange(&[0x5F, 0, 47, 2, 7, 1], 10, &[])));
         let number = |at: usize| usize::from(packet[at]) << 8 | usize::from(packet[at + 1]);
-        assert_eq!((number(12), packet.len()), (0x0800, 14 + 20 + 8 + BLOCK + 2));
+        assert_eq!((number(12), packet.len()), (0x0800, HEADERS + BLOCK + 2));
         assert_eq!((number(16), number(38)), (packet.len() - 14, packet.len() - 34));
         assert_eq!(checksum(&packet[14..34]), 0);
         let rpc = &packet[42..];
@@ -319,10 +345,46 @@ mod tests {
     fn a_capture_of_one_exchange() {
         let mut bytes = Vec::new();
         let mut capture = Capture::new(&mut bytes).unwrap();
-        capture.add(&exchange(&[0x5E, 0, 47, 240], 8, &[0xDE, 0x80, 0xB5, 0])).unwrap();
+        capture.add(&[exchange(&[0x5E, 0, 47, 240], 8, &[0xDE, 0x80, 0xB5, 0])]).unwrap();
         capture.finish().unwrap();
-        assert_eq!(bytes.len(), 24 + 2 * (16 + 14 + 20 + 8 + BLOCK));
+        assert_eq!(bytes.len(), 24 + 2 * (16 + HEADERS + BLOCK));
         // Record 65541 is sent at 65.541 seconds.
         assert_eq!(&bytes[24..32], [0, 0, 0, 65, 0x00, 0x08, 0x41, 0x48]);
+        assert_eq!(microseconds(&bytes), [541_000, 541_500]);
+    }
+
+    /// The microseconds of each packet.
+    fn microseconds(capture: &[u8]) -> Vec<u32> {
+        let number = |at: usize| u32::from_be_bytes(std::array::from_fn(|byte| capture[at + byte]));
+        let next = |at: &usize| Some(at + 16 + number(at + 8) as usize).filter(|next| *next < capture.len());
+        std::iter::successors(Some(24), next).map(|at| number(at + 4)).collect()
+    }
+
+    #[test]
+    fn a_merged_call_is_two_exchanges() {
+        let (write, block) = ([0x5F, 0, 47, 2, 7, 1], [0x5E, 0, 47, 4, 7, 2, 1, 1]);
+        let parts = exchange(&write, 0, &block).by(Sending::Merged);
+        let told: Vec<_> = parts.iter().map(|it| (it.frame.as_slice(), it.reply.as_slice(), it.stored)).collect();
+        assert_eq!(told, [(&write[..], &[0x5F, 0, 47, 2][..], 3), (&[0x5E, 0, 47, 0xF0], &block, 0)]);
+        assert!(parts.iter().all(|it| (it.record, it.farm, it.number) == (0x1_0005, 2, 0)));
+        let mut bytes = Vec::new();
+        let mut capture = Capture::new(&mut bytes).unwrap();
+        capture.add(&parts).unwrap();
+        assert_eq!(bytes.len(), 24 + 4 * (16 + HEADERS + BLOCK) + 2 + 4);
+        assert_eq!(microseconds(&bytes), [541_000, 541_250, 541_500, 541_750]);
+    }
+
+    #[test]
+    fn what_is_not_merged_or_not_done_is_one_exchange() {
+        let one = |frame: &[u8], number, reply: &[u8], sending| {
+            let parts = exchange(frame, number, reply).by(sending);
+            let [part] = parts.as_slice() else { panic!("{parts:?}") };
+            assert_eq!((part.frame.as_slice(), part.number, part.reply.as_slice()), (frame, number, reply));
+        };
+        let write = [0x5F, 0, 47, 2, 7, 1];
+        one(&write, 0, &[0x5F, 0, 47, 2], Sending::Alone);
+        one(&write, 8, &[0xDF, 0x80, 0xB5, 0], Sending::Merged);
+        one(&[0x5E, 0, 47, 0xF0], 4, &[], Sending::Merged);
+        one(&[], 4, &[], Sending::Merged);
     }
 }

@@ -2,6 +2,7 @@
 
 use crate::face;
 use crate::meaning::{decode, encode, PART, STATION};
+use crate::sending::{in_turn, Sending};
 use crate::words::Inputs;
 use std::fmt::{self, Display, Formatter};
 use twin::{Axis, Cycled, Framed, Station, AXES};
@@ -19,8 +20,8 @@ pub enum Call {
     Fresh,
     /// A cycle of this axis.
     Cycle(u32, Inputs),
-    /// A frame of this farm, and how much reply memory it is lent.
-    Frame(u32, Vec<u8>, usize),
+    /// A frame of this farm, how it is sent, and how much reply memory it is lent.
+    Frame(u32, Sending, Vec<u8>, usize),
 }
 
 impl Call {
@@ -40,8 +41,8 @@ impl Display for Call {
                 "cycle axis {axis:X} flags {:X} STW1 {:04X} NSOLL_A {:04X} NIST_A {:04X} fault {:04X}",
                 i.flags, i.stw1, i.nsoll, i.nist, i.fault
             ),
-            Call::Frame(farm, frame, reply) => {
-                write!(f, "frame farm {farm:X} reply memory {reply} frame {}", hex(frame))
+            Call::Frame(farm, sending, frame, reply) => {
+                write!(f, "{sending} farm {farm:X} reply memory {reply} frame {}", hex(frame))
             }
         }
     }
@@ -54,11 +55,15 @@ pub enum Answer {
     Fresh(u8),
     /// A cycle's answer.
     Cycle(Cycled),
-    /// A frame's answer.
+    /// The answer of a frame, however it was sent.
     Frame(Framed),
 }
 
 impl Answer {
+    fn framed(face::Framed { length, stored, number }: face::Framed) -> Answer {
+        Answer::Frame(Framed { length, stored, number })
+    }
+
     /// 0 or the refusal number.
     pub fn number(&self) -> u8 {
         match self {
@@ -76,12 +81,12 @@ pub struct Difference {
     pub what: String,
     /// Ours, in hex or as an answer.
     pub ours: String,
-    /// The twin's.
-    pub twin: String,
+    /// What it should be: the twin's, what was before, or what other calls of the library leave.
+    pub wanted: String,
 }
 
-fn differ(what: impl Into<String>, ours: impl Into<String>, twin: impl Into<String>) -> Difference {
-    Difference { what: what.into(), ours: ours.into(), twin: twin.into() }
+fn differ(what: impl Into<String>, ours: impl Into<String>, wanted: impl Into<String>) -> Difference {
+    Difference { what: what.into(), ours: ours.into(), wanted: wanted.into() }
 }
 
 /// Both stations.
@@ -126,6 +131,11 @@ impl Pair {
         part_of(&self.before, index)
     }
 
+    /// Our reply memory after the last frame, and bytes past what was lent of it.
+    pub fn reply(&self) -> &[u8] {
+        &self.ours_reply
+    }
+
     /// Puts these bytes in the place of our part, and what they mean, if anything, in that of the twin's.
     pub fn put(&mut self, index: usize, part: &[u8; PART]) {
         let start = GUARD + index * PART;
@@ -140,18 +150,27 @@ impl Pair {
     pub fn call(&mut self, call: &Call, bytes: usize, pattern: u8) -> Result<Answer, Difference> {
         let twin = self.call_twin(call, bytes, pattern);
         let ours = self.call_ours(call, bytes, pattern);
-        if ours != twin {
-            return Err(differ("answer", format!("{ours:?}"), format!("{twin:?}")));
-        }
-        if self.ours_reply != self.twin_reply {
-            return Err(differ("reply memory", hex(&self.ours_reply), hex(&self.twin_reply)));
-        }
+        same_answer("answer", &ours, &twin)?;
+        same_bytes("reply memory", &self.ours_reply, &self.twin_reply)?;
         match call {
             Call::Fresh if ours.number() == 0 => self.compare_all()?,
             _ => self.compare_part(call.owner(), ours.number())?,
         }
         self.compare_rest(call, ours.number())?;
         Ok(ours)
+    }
+
+    /// Makes the call in the same way, and compares a merged one also with the library's own frames in turn, made before
+    /// on a copy of our memory.
+    pub fn call_and_in_turn(&mut self, call: &Call, bytes: usize, pattern: u8) -> Result<Answer, Difference> {
+        let Call::Frame(farm, Sending::Merged, frame, lent) = call else { return self.call(call, bytes, pattern) };
+        let (mut memory, mut reply) = (self.memory.clone(), vec![pattern; self.ours_reply.len()]);
+        let framed = in_turn(&mut memory[GUARD..GUARD + bytes], *farm, frame, &mut reply[..*lent]);
+        let answer = self.call(call, bytes, pattern)?;
+        same_answer("answer, and that of the two calls in turn", &answer, &Answer::framed(framed))?;
+        same_bytes("reply memory, and that of the two calls in turn", &self.ours_reply, &reply)?;
+        same_bytes("memory, and that after the two calls in turn", &self.memory, &memory)?;
+        Ok(answer)
     }
 
     fn call_ours(&mut self, call: &Call, bytes: usize, pattern: u8) -> Answer {
@@ -163,11 +182,9 @@ impl Pair {
                     face::cycle(station, *axis, i.flags, i.stw1, i.nsoll, i.nist, i.fault);
                 Answer::Cycle(Cycled { rpm, status, state, number })
             }
-            Call::Frame(farm, frame, reply) => {
+            Call::Frame(farm, sending, frame, reply) => {
                 self.ours_reply.fill(pattern);
-                let face::Framed { length, stored, number } =
-                    face::frame(station, *farm, frame, &mut self.ours_reply[..*reply]);
-                Answer::Frame(Framed { length, stored, number })
+                Answer::framed(sending.ours(station, *farm, frame, &mut self.ours_reply[..*reply]))
             }
         }
     }
@@ -186,12 +203,12 @@ impl Pair {
                 Answer::Cycle(Cycled { rpm: 0, status: 0, state: 0, number: 2 })
             }
             Call::Cycle(axis, i) => Answer::Cycle(self.twin.cycle(*axis, i.flags, i.stw1, i.nsoll, i.nist, i.fault)),
-            Call::Frame(farm, frame, reply) => {
+            Call::Frame(farm, sending, frame, reply) => {
                 self.twin_reply.fill(pattern);
                 if second && call.owner().is_some() {
                     return Answer::Frame(Framed { length: 0, stored: 0, number: 2 });
                 }
-                Answer::Frame(self.twin.frame(*farm, frame, &mut self.twin_reply[..*reply]))
+                Answer::Frame(sending.twins(&mut self.twin, *farm, frame, &mut self.twin_reply[..*reply]))
             }
         }
     }
@@ -236,10 +253,17 @@ fn part_of(memory: &[u8], index: usize) -> &[u8; PART] {
     memory[GUARD + index * PART..].first_chunk().expect("16 parts and a guard")
 }
 
-fn same_bytes(what: &str, ours: &[u8], was: &[u8]) -> Result<(), Difference> {
-    match ours.iter().zip(was).position(|(ours, was)| ours != was) {
-        _ if ours == was => Ok(()),
-        at => Err(differ(format!("{what}, byte {at:?}"), hex(ours), hex(was))),
+fn same_answer(what: &str, ours: &Answer, wanted: &Answer) -> Result<(), Difference> {
+    if ours == wanted {
+        return Ok(());
+    }
+    Err(differ(what, format!("{ours:?}"), format!("{wanted:?}")))
+}
+
+fn same_bytes(what: &str, ours: &[u8], wanted: &[u8]) -> Result<(), Difference> {
+    match ours.iter().zip(wanted).position(|(ours, wanted)| ours != wanted) {
+        _ if ours == wanted => Ok(()),
+        at => Err(differ(format!("{what}, byte {at:?}"), hex(ours), hex(wanted))),
     }
 }
 

@@ -1,11 +1,13 @@
 //! What a run of calls has reached.
 
 use crate::blocks::Kind;
+use crate::counts::{named, unmet, Counts, Worked};
 use crate::fills::Fills;
+use crate::merged::Merged;
+use crate::sending::Sending;
 use crate::words::Inputs;
-use std::collections::BTreeMap;
 use std::fmt::{self, Display, Formatter};
-use twin::{Axis, Item, State};
+use twin::{Axis, State};
 
 /// How the memory was lent to a call.
 #[derive(Clone, Copy, Debug, PartialEq, Eq)]
@@ -34,10 +36,6 @@ const KINDS: [(Kind, &str); 4] =
 /// Refusal numbers with which a cycle and a frame can be answered, 0 for none.
 const CYCLE_NUMBERS: [u8; 4] = [0, 1, 2, 12];
 const FRAME_NUMBERS: [u8; 12] = [0, 1, 2, 3, 4, 5, 6, 7, 8, 9, 10, 11];
-/// Identifiers of responses.
-const RESPONSES: [u8; 4] = [0x01, 0x02, 0x81, 0x82];
-/// Error words of addresses.
-const ERRORS: [u8; 11] = [0x00, 0x01, 0x02, 0x03, 0x04, 0x05, 0x09, 0x0F, 0x15, 0x16, 0x18];
 /// Transitions of document 01's table.
 const STEPS: [(State, &[State]); 6] = [
     (State::S1, &[State::S2]),
@@ -59,9 +57,6 @@ const EVENTS: [&str; 8] = [
     "effective setpoint held",
 ];
 
-/// How often each number was met.
-type Counts = BTreeMap<u8, u64>;
-
 /// The counts of a run.
 #[derive(Default)]
 pub struct Tally {
@@ -69,19 +64,20 @@ pub struct Tally {
     pub calls: u64,
     fresh: u64,
     cycles: u64,
-    frames: [u64; KINDS.len()],
+    /// By how they were sent.
+    frames: [[u64; KINDS.len()]; 2],
     settings: [u64; SETTINGS.len()],
     cycle_numbers: Counts,
     frame_numbers: Counts,
     states: [u64; 6],
     steps: [[u64; 6]; 6],
     events: [u64; EVENTS.len()],
-    changes_stored: u64,
-    elements_stored: u64,
-    responses: Counts,
-    errors: Counts,
-    /// What was met of fill bytes.
+    /// What frames sent alone came to.
+    pub worked: Worked,
+    /// What was met of fill bytes: in parts by all calls, else by frames sent alone.
     pub fills: Fills,
+    /// What was met of merged calls.
+    pub merged: Merged,
 }
 
 impl Tally {
@@ -99,7 +95,7 @@ impl Tally {
     /// A cycle was answered with this number.
     pub fn cycle(&mut self, number: u8) {
         self.cycles += 1;
-        *self.cycle_numbers.entry(number).or_default() += 1;
+        self.cycle_numbers.add(number);
     }
 
     /// A cycle with these inputs was accepted.
@@ -125,92 +121,54 @@ impl Tally {
         }
     }
 
-    /// A frame of this kind was answered with this number, and stored so many elements.
-    pub fn frame(&mut self, kind: Kind, number: u8, stored: u16) {
-        self.frames[kind as usize] += 1;
-        *self.frame_numbers.entry(number).or_default() += 1;
-        self.changes_stored += u64::from(stored > 0);
-        self.elements_stored += u64::from(stored);
+    /// A frame of this kind was sent.
+    pub fn sent(&mut self, sending: Sending, kind: Kind) {
+        self.frames[sending as usize][kind as usize] += 1;
     }
 
-    /// This response now waits.
-    pub fn response(&mut self, block: &[u8]) {
-        *self.responses.entry(block[1]).or_default() += 1;
-        let Some(response) = twin::parse_response(block) else { return };
-        for item in response.items() {
-            if let Item::Error(error) = item {
-                *self.errors.entry(error as u8).or_default() += 1;
-            }
-        }
+    /// A frame sent alone was answered with this number.
+    pub fn frame(&mut self, number: u8) {
+        self.frame_numbers.add(number);
     }
 
     /// What no call has reached.
     pub fn missing(&self) -> Vec<String> {
         let mut missing = Vec::new();
-        let mut want = |reached: u64, what: String| {
-            if reached == 0 {
-                missing.push(what);
-            }
-        };
-        CYCLE_NUMBERS.iter().for_each(|n| want(times(&self.cycle_numbers, n), format!("cycle with number {n}")));
-        FRAME_NUMBERS.iter().for_each(|n| want(times(&self.frame_numbers, n), format!("frame with number {n}")));
-        ERRORS.iter().for_each(|error| want(times(&self.errors, error), format!("error {error:02X}")));
-        RESPONSES.iter().for_each(|id| want(times(&self.responses, id), format!("response {id:02X}")));
+        missing.extend(self.cycle_numbers.unmet(&CYCLE_NUMBERS).map(|number| format!("cycle with number {number}")));
+        missing.extend(self.frame_numbers.unmet(&FRAME_NUMBERS).map(|number| format!("frame with number {number}")));
+        missing.extend(self.worked.missing());
         for (from, tos) in STEPS {
-            tos.iter().for_each(|to| want(self.steps[from as usize][*to as usize], format!("{from:?} to {to:?}")));
-            want(self.steps[from as usize][from as usize], format!("{from:?} kept"));
+            let unmet = |to: &&State| self.steps[from as usize][**to as usize] == 0;
+            missing.extend(tos.iter().filter(unmet).map(|to| format!("{from:?} to {to:?}")));
+            missing.extend([&from].into_iter().filter(unmet).map(|kept| format!("{kept:?} kept")));
         }
-        EVENTS.iter().zip(self.events).for_each(|(name, times)| want(times, name.to_string()));
-        SETTINGS.iter().for_each(|(s, name)| want(self.settings[*s as usize], format!("memory {name}")));
-        want(self.changes_stored, "a stored element".into());
+        missing.extend(unmet(&self.events, &EVENTS).map(String::from));
+        missing.extend(unmet(&self.settings, &SETTINGS.map(|(_, name)| name)).map(|name| format!("memory {name}")));
         missing.extend(self.fills.missing());
+        missing.extend(self.merged.missing());
         missing
     }
 }
 
 impl Display for Tally {
     fn fmt(&self, f: &mut Formatter) -> fmt::Result {
-        let kinds: Vec<_> =
-            KINDS.iter().map(|(kind, name)| format!("{name} {}", self.frames[*kind as usize])).collect();
-        writeln!(f, "calls      cycle {}, frame: {}, fresh {}", self.cycles, kinds.join(", "), self.fresh)?;
-        let settings: Vec<_> =
-            SETTINGS.iter().map(|(s, name)| format!("{name} {}", self.settings[*s as usize])).collect();
-        writeln!(f, "memory     {}", settings.join(", "))?;
-        writeln!(f, "cycles     by number (0 accepted): {}", list(&CYCLE_NUMBERS, &self.cycle_numbers, false))?;
-        writeln!(f, "frames     by number (0 accepted): {}", list(&FRAME_NUMBERS, &self.frame_numbers, false))?;
-        let named = |times: &[u64; 6]| {
+        let [alone, merged] = self.frames.map(|kinds| named(&kinds, &KINDS.map(|(_, name)| name)));
+        writeln!(f, "calls      cycle {}, frame: {alone}, merged call: {merged}, fresh {}", self.cycles, self.fresh)?;
+        writeln!(f, "memory     {}", named(&self.settings, &SETTINGS.map(|(_, name)| name)))?;
+        writeln!(f, "cycles     by number (0 accepted): {}", self.cycle_numbers.list(&CYCLE_NUMBERS))?;
+        writeln!(f, "frames     by number (0 accepted): {}", self.frame_numbers.list(&FRAME_NUMBERS))?;
+        let reached = |times: &[u64; 6]| {
             let reached = State::ALL.iter().zip(times).filter(|(_, times)| **times > 0);
             reached.map(|(state, times)| format!("{state:?} {times}")).collect::<Vec<_>>().join(", ")
         };
-        writeln!(f, "states     {}", named(&self.states))?;
+        writeln!(f, "states     {}", reached(&self.states))?;
         for (from, row) in State::ALL.iter().zip(&self.steps) {
-            writeln!(f, "           from {:3} to {}", format!("{from:?}"), named(row))?;
+            writeln!(f, "           from {:3} to {}", format!("{from:?}"), reached(row))?;
         }
-        let events: Vec<_> = EVENTS.iter().zip(self.events).map(|(name, times)| format!("{name} {times}")).collect();
-        writeln!(f, "events     {}", events.join(", "))?;
-        writeln!(f, "responses  {}", list(&RESPONSES, &self.responses, true))?;
-        writeln!(f, "errors     {}", list(&ERRORS, &self.errors, true))?;
-        writeln!(
-            f,
-            "stored     {} changes stored at least one element, {} elements",
-            self.changes_stored, self.elements_stored
-        )?;
-        write!(f, "{}", self.fills)
+        writeln!(f, "events     {}", named(&self.events, &EVENTS))?;
+        for (name, counts) in self.worked.lines() {
+            writeln!(f, "{name:10} {counts}")?;
+        }
+        write!(f, "{}{}", self.fills, self.merged)
     }
-}
-
-fn times(counts: &Counts, number: &u8) -> u64 {
-    counts.get(number).copied().unwrap_or(0)
-}
-
-fn list(numbers: &[u8], counts: &Counts, hex: bool) -> String {
-    let one = |number: &u8| {
-        let times = times(counts, number);
-        if hex {
-            format!("{number:02X}: {times}")
-        } else {
-            format!("{number}: {times}")
-        }
-    };
-    numbers.iter().map(one).collect::<Vec<_>>().join(", ")
 }

@@ -16,10 +16,11 @@ use std::process::ExitCode;
 use trial::journal::{self, Next};
 use trial::packets::Capture;
 
-/// What was played.
+/// What was played. A merged call that was done is two exchanges.
 #[derive(Default)]
 struct Played {
     records: u64,
+    cycles: u64,
     exchanges: u64,
     refused: u64,
     bad: bool,
@@ -41,8 +42,8 @@ fn main() -> ExitCode {
 }
 
 fn finish(played: &Played, journal: &OsStr, out: &OsStr) -> Result<ExitCode, String> {
-    let Played { records, exchanges, refused, bad } = *played;
-    let (packets, cycles) = (2 * exchanges, records - exchanges);
+    let Played { records, cycles, exchanges, refused, bad } = *played;
+    let packets = 2 * exchanges;
     let name = Path::new(out).display();
     writeln!(
         io::stdout(),
@@ -97,11 +98,11 @@ fn play(
     let mut next = first;
     while let Next::Record(record) = next {
         played.records += 1;
-        if let Some(exchange) = journal::play(&mut station, record, played.records) {
-            played.exchanges += 1;
-            played.refused += u64::from(exchange.number != 0);
-            capture.add(&exchange).map_err(wrong(out))?;
-        }
+        let exchanges = journal::play(&mut station, record, played.records);
+        played.cycles += u64::from(exchanges.is_empty());
+        played.exchanges += exchanges.len() as u64;
+        played.refused += exchanges.iter().filter(|exchange| exchange.number != 0).count() as u64;
+        capture.add(&exchanges).map_err(wrong(out))?;
         next = journal::next(input).map_err(wrong(journal))?;
     }
     played.bad = matches!(next, Next::Bad);

@@ -6,13 +6,15 @@
 use std::process::ExitCode;
 use std::time::{Duration, Instant};
 use trial::blocks::{self, Kind};
-use trial::meaning::{field_at, PART, STATION};
+use trial::meaning::{field_at, response_of, PART, STATION};
+use trial::merged::Made;
 use trial::pair::{hex, Answer, Call, Difference, Pair, GUARD, REPLY_MAX};
 use trial::parts;
 use trial::random::Random;
+use trial::sending::{Sending, READ};
 use trial::tally::{Setting, Tally};
 use trial::words;
-use twin::{well_formed, AXES};
+use twin::{well_formed, Axis, Framed, AXES};
 
 const USAGE: &str = "usage: differential [--calls N] [--seed S] [--minutes M]";
 const CALLS: u64 = 1_000_000;
@@ -21,6 +23,8 @@ const SEED: u64 = 1;
 const ALL_PARTS: u64 = 1000;
 /// A run of so many calls that misses something the tally asks for has failed too.
 const REACHES_ALL: u64 = 200_000;
+/// One in so many merged calls is also made as the two calls that it stands for.
+const IN_TURN: usize = 4;
 /// Farms, axes and thus owners that do not exist, some of which a silent conversion would make exist.
 const NOBODY: [u32; 10] = [0, 17, 18, 255, 256, 257, 272, 0x0001_0001, 0x8000_0001, u32::MAX];
 
@@ -104,6 +108,19 @@ fn run(options: &Options) -> Result<Tally, String> {
         }
     }
     Ok(trial.tally)
+}
+
+/// A call that was answered as it should be.
+struct Done {
+    call: Call,
+    answer: Answer,
+    /// The owner's part before it.
+    before: Option<Axis>,
+    /// Bytes that the station was lent as.
+    bytes: usize,
+    kind: Kind,
+    /// Whether the two calls that it stands for were made beside it.
+    in_turn: bool,
 }
 
 /// A run under way.
@@ -210,11 +227,11 @@ impl Trial {
         let random = &mut self.random;
         let number = if random.one_in(150) { random.pick(&NOBODY) } else { index as u32 + 1 };
         let part = self.pair.axis(index);
-        if random.one_in(2) {
+        if random.percent(40) {
             return (Call::Cycle(number, words::inputs(random, part)), Kind::Free);
         }
         let waiting = part.waiting.as_ref().map(|waiting| waiting.length);
-        let (kind, frame) = blocks::frame(random, index as u8 + 1, waiting);
+        let (sending, kind, frame) = blocks::frame(random, index as u8 + 1, waiting);
         let reply = match random.below(40) {
             0 => 243,
             1 => random.pick(&[0, 0, 1, 4, 240, 242]),
@@ -222,65 +239,79 @@ impl Trial {
             3..=12 => 300,
             _ => 244,
         };
-        (Call::Frame(number, frame, reply), kind)
+        (Call::Frame(number, sending, frame, reply), kind)
     }
 
     fn call(&mut self, call: Call, bytes: usize, setting: Setting, kind: Kind) -> Result<(), String> {
         let before = call.owner().map(|owner| self.pair.axis(owner).clone());
         let pattern = self.random.byte();
-        match self.pair.call(&call, bytes, pattern) {
-            Err(difference) => Err(self.told(&call, bytes, setting, &difference)),
-            Ok(answer) => {
-                self.count(&call, &answer, setting, kind, before);
-                Ok(())
-            }
-        }
+        let in_turn = matches!(call, Call::Frame(_, Sending::Merged, ..)) && self.random.one_in(IN_TURN);
+        let made = if in_turn {
+            self.pair.call_and_in_turn(&call, bytes, pattern)
+        } else {
+            self.pair.call(&call, bytes, pattern)
+        };
+        let answer = made.map_err(|difference| self.told(&call, bytes, setting, &difference))?;
+        self.tally.setting(setting);
+        self.count(&Done { call, answer, before, bytes, kind, in_turn });
+        Ok(())
     }
 
-    fn count(&mut self, call: &Call, answer: &Answer, setting: Setting, kind: Kind, before: Option<twin::Axis>) {
-        self.count_fills(call, answer, before.as_ref());
-        let tally = &mut self.tally;
-        tally.setting(setting);
-        match (call, answer) {
+    fn count(&mut self, done: &Done) {
+        let owner = done.call.owner().zip(done.before.as_ref());
+        if let (2, Some((owner, before))) = (done.answer.number(), owner) {
+            self.tally.fills.ill_formed(before, owner as u8 + 1);
+        }
+        match (&done.call, done.answer) {
             (Call::Cycle(_, inputs), Answer::Cycle(cycled)) => {
-                tally.cycle(cycled.number);
-                if let (0, Some(before), Some(owner)) = (cycled.number, before, call.owner()) {
-                    tally.step(&before, self.pair.axis(owner), inputs);
+                self.tally.cycle(cycled.number);
+                if let (0, Some((owner, before))) = (cycled.number, owner) {
+                    self.tally.step(before, self.pair.axis(owner), inputs);
                 }
             }
-            (Call::Frame(_, frame, _), Answer::Frame(framed)) => {
-                tally.frame(kind, framed.number, framed.stored);
-                let waiting = call.owner().and_then(|owner| self.pair.axis(owner).waiting.as_ref());
-                if let (0, 0x5F, Some(waiting)) = (framed.number, frame.first().copied().unwrap_or(0), waiting) {
-                    tally.response(&waiting.bytes[..waiting.length]);
+            (Call::Frame(_, sending, frame, _), Answer::Frame(framed)) => {
+                self.tally.sent(*sending, done.kind);
+                match sending {
+                    Sending::Alone => self.count_frame(owner, frame, framed),
+                    Sending::Merged => {
+                        let (bytes, in_turn) = (done.bytes, done.in_turn);
+                        let reply = &self.pair.reply()[..framed.length.into()];
+                        self.tally.merged.count(&Made { sender: owner, bytes, frame, framed, reply, in_turn });
+                    }
                 }
             }
-            _ => tally.fresh(),
+            _ => self.tally.fresh(),
         }
     }
 
-    fn count_fills(&mut self, call: &Call, answer: &Answer, before: Option<&twin::Axis>) {
-        let fills = &mut self.tally.fills;
-        let (Some(owner), Some(before)) = (call.owner(), before) else { return };
-        let after = self.pair.axis(owner);
-        let waiting = |axis: &twin::Axis| axis.waiting.as_ref().map_or(Vec::new(), |it| it.bytes[..it.length].to_vec());
-        match (answer.number(), call) {
-            (2, _) => fills.ill_formed(before, owner as u8 + 1),
-            (10, Call::Frame(_, frame, _)) => fills.refused(&frame[4..]),
-            (0, Call::Frame(_, frame, _)) if frame[0] == 0x5E => fills.fetched(&waiting(before)),
-            (0, Call::Frame(_, frame, _)) => fills.worked(&frame[4..], &waiting(after)),
+    /// A frame sent alone by the owner of a part that was so before, or by nobody.
+    fn count_frame(&mut self, sender: Option<(usize, &Axis)>, frame: &[u8], framed: Framed) {
+        let tally = &mut self.tally;
+        tally.frame(framed.number);
+        let Some((owner, before)) = sender else { return };
+        match (framed.number, frame) {
+            (10, [_, _, _, _, block @ ..]) => tally.fills.refused(block),
+            (0, [READ, ..]) => {
+                tally.fills.fetched(response_of(before));
+                tally.merged.fetched(owner, response_of(before));
+            }
+            (0, [_, _, _, _, block @ ..]) => {
+                let response = response_of(self.pair.axis(owner));
+                tally.worked.count(response, framed.stored);
+                tally.fills.worked(block, response);
+            }
             _ => {}
         }
     }
 
     /// All that is needed to see the difference again.
     fn told(&self, call: &Call, bytes: usize, setting: Setting, difference: &Difference) -> String {
-        let Difference { what, ours, twin } = difference;
+        let Difference { what, ours, wanted } = difference;
         let part = call.owner().map_or(String::new(), |owner| {
             format!("\npart before  {}\npart after   {}", hex(self.pair.part_before(owner)), hex(self.pair.part(owner)))
         });
         format!(
-            "disagreement: {what}\ncall {} in memory {setting:?}, {bytes} bytes\n{call}\nours  {ours}\ntwin  {twin}{part}",
+            "disagreement: {what}\ncall {} in memory {setting:?}, {bytes} bytes\n{call}\nours    {ours}\nwanted  {wanted}{part}",
             self.tally.calls
         )
     }

@@ -3,8 +3,8 @@
 //! Usage: `play-examples FILE...`; what the files hold is said in `cases.rs`.
 //!
 //! Beyond the written answers these hold for every step: bytes of the reply memory past the reply stay as they were,
-//! a refusal leaves the whole memory as it was, an answered call changes the caller's part alone, and a refused cycle
-//! answers zeros.
+//! a refusal leaves the whole memory as it was, an answered call changes the caller's part alone, a refused cycle answers
+//! zeros, and a merged call comes to the same as the library's own write and fetch in turn, reply and memory included.
 
 #![forbid(unsafe_code)]
 
@@ -15,6 +15,7 @@ use std::{env, fmt, fs};
 use trial::cases::{read_cases, Case, Cycle, CycleAnswer, FrameAnswer, Line, Step, PARTS, SPARE};
 use trial::face::{self, Cycled, Framed};
 use trial::pair::hex;
+use trial::sending::{in_turn, Sending};
 
 const SPARE_BYTE: u8 = 0x5A;
 const REPLY_BYTE: u8 = 0xA5;
@@ -69,9 +70,10 @@ impl Bench {
                 compare(wanted, &CycleAnswer { rpm, status, state, number })?;
                 self.untouched(&before, number, axis)
             }
-            Step::Frame { farm, frame, wanted } => {
-                let number = self.frame(*farm, frame, wanted)?;
-                self.untouched(&before, number, *farm)
+            Step::Frame { farm, sending, frame, wanted } => {
+                let number = self.frame(|station, reply| sending.ours(station, *farm, frame, reply), wanted)?;
+                self.untouched(&before, number, *farm)?;
+                self.same_in_turn(before, step)
             }
             Step::Fresh { number } => {
                 let got = face::fresh(&mut self.memory[..self.lent]);
@@ -100,10 +102,14 @@ impl Bench {
         }
     }
 
-    /// A frame, and what is wrong with its answer or its reply; else its number.
-    fn frame(&mut self, farm: u32, frame: &[u8], wanted: &FrameAnswer) -> Result<u8, (String, String)> {
+    /// Sends a frame with a station and a reply memory: what is wrong with its answer or its reply; else its number.
+    fn frame(
+        &mut self,
+        send: impl Fn(&mut [u8], &mut [u8]) -> Framed,
+        wanted: &FrameAnswer,
+    ) -> Result<u8, (String, String)> {
         let mut reply = vec![REPLY_BYTE; self.reply_size];
-        let Framed { length, stored, number } = face::frame(&mut self.memory[..self.lent], farm, frame, &mut reply);
+        let Framed { length, stored, number } = send(&mut self.memory[..self.lent], &mut reply);
         let length = usize::from(length);
         if length > reply.len() {
             return Err((wanted.to_string(), format!("{number} {stored} and a length of {length}")));
@@ -114,6 +120,15 @@ impl Bench {
             return Err(("the reply memory past the reply untouched".to_string(), hex(&past)));
         }
         Ok(number)
+    }
+
+    /// On the memory before a merged call, the library's own calls in turn answer the same and leave the same.
+    fn same_in_turn(&self, before: Vec<u8>, step: &Step) -> Result<(), (String, String)> {
+        let Step::Frame { farm, sending: Sending::Merged, frame, wanted } = step else { return Ok(()) };
+        let mut other = Bench { memory: before, ..*self };
+        let done = other.frame(|station, reply| in_turn(station, *farm, frame, reply), wanted);
+        done.and_then(|_| self.same(&other.memory, 0..self.memory.len()))
+            .map_err(|(expected, got)| (format!("beside two calls in turn {expected}"), got))
     }
 
     /// A refusal changes nothing; an answered call changes the caller's part alone.

@@ -6,6 +6,7 @@
 use std::io::{self, BufWriter, Write};
 use trial::journal::FRAME_ROOM;
 use trial::random::Random;
+use trial::sending::Sending;
 use trial::{blocks, words};
 use twin::{Station, AXES};
 
@@ -47,19 +48,23 @@ fn cycle(random: &mut Random, station: &mut Station, out: &mut impl Write) -> io
     Ok(())
 }
 
-/// A record of kind 2, with a frame that has room in one.
+/// A record of kind 2 or 3, with a frame that has room in one.
 fn frame(random: &mut Random, station: &mut Station, out: &mut impl Write) -> io::Result<()> {
     let index = random.below(AXES);
     let farm = number(random, index);
     let waiting = station.axes[index].waiting.as_ref().map(|waiting| waiting.length);
-    let mut frame = blocks::frame(random, index as u8 + 1, waiting).1;
+    let (mut sending, _, mut frame) = blocks::frame(random, index as u8 + 1, waiting);
     while frame.len() > FRAME_ROOM {
-        frame = blocks::frame(random, index as u8 + 1, waiting).1;
+        (sending, _, frame) = blocks::frame(random, index as u8 + 1, waiting);
     }
     let mut body = [0; FRAME_ROOM];
     body[..frame.len()].copy_from_slice(&frame);
-    out.write_all(&[2, farm, frame.len() as u8])?;
+    let kind = match sending {
+        Sending::Alone => 2,
+        Sending::Merged => 3,
+    };
+    out.write_all(&[kind, farm, frame.len() as u8])?;
     out.write_all(&body)?;
-    station.frame(u32::from(farm), &frame, &mut [0; FRAME_ROOM]);
+    sending.twins(station, u32::from(farm), &frame, &mut [0; FRAME_ROOM]);
     Ok(())
 }

@@ -7,7 +7,7 @@
 //!   structure;
 //! - responses of every kind, made up in the same way: the structure;
 //! - the library's own responses, to those requests and to the journals: the twin's answer to the same call, as the twin
-//!   reads it;
+//!   reads it. A merged call that is done stands in the capture as its write and its fetch: the twin's answers to these two;
 //! - the requests of journals, and the examples with the answers written there: what the twin reads. Nothing here makes
 //!   their bytes, and the twin's reader is neither the library's nor Wireshark's.
 //!
@@ -51,6 +51,7 @@ use trial::journal::{self, Next, Record};
 use trial::layout::{Block, Values, BYTE_FORMATS};
 use trial::packets::{Capture, Exchange};
 use trial::random::Random;
+use trial::sending::{Sending, FETCH, READ};
 use trial::{blocks, parts, words};
 use twin::{Address, Station, AXES, REPLY_MIN};
 
@@ -158,6 +159,30 @@ impl Answer {
     }
 }
 
+/// An exchange, and what its block and its answer were meant to be.
+struct Spoken {
+    exchange: Exchange,
+    block: Option<Block>,
+    answer: Answer,
+}
+
+impl Spoken {
+    /// A frame that comes as bytes.
+    fn of_bytes((exchange, answer): (Exchange, Answer)) -> Spoken {
+        let block = match exchange.frame.as_slice() {
+            [0x5F, _, 47, length, block @ ..] if usize::from(*length) == block.len() => Block::of_request(block),
+            _ => None,
+        };
+        Spoken { exchange, block, answer }
+    }
+
+    /// A frame with the answer that an example has for it.
+    fn of_example(exchange: Exchange) -> Spoken {
+        let answer = Answer::of(exchange.number, exchange.stored, &exchange.reply);
+        Spoken::of_bytes((exchange, answer))
+    }
+}
+
 /// A capture with what its packets mean, written from a station of the library with the twin beside it.
 struct Bench {
     path: PathBuf,
@@ -189,50 +214,57 @@ impl Bench {
         })
     }
 
-    /// Adds an exchange whose block and answer were meant so.
-    fn add(&mut self, what: &str, exchange: Exchange, block: Option<&Block>, answer: &Answer) -> Result<(), String> {
+    /// Adds the exchanges of a record.
+    fn add(&mut self, what: &str, spoken: Vec<Spoken>) -> Result<(), String> {
         self.records += 1;
-        let exchange = Exchange { record: self.records, ..exchange };
-        self.capture.add(&exchange).map_err(|error| error.to_string())?;
-        let what = format!("{what}, farm {}", exchange.farm);
-        let (request, response) = (request_meant(&what, &exchange, block), response_meant(&what, &exchange, answer));
-        self.requests += usize::from(block.is_some() && request.until == Until::End);
-        self.responses += usize::from(answer.block.is_some() && response.until == Until::End);
-        self.meant.extend([request, response]);
-        Ok(())
+        let mut exchanges = Vec::new();
+        for Spoken { exchange, block, answer } in spoken {
+            let exchange = Exchange { record: self.records, ..exchange };
+            let what = format!("{what}, farm {}", exchange.farm);
+            let request = request_meant(&what, &exchange, block.as_ref());
+            let response = response_meant(&what, &exchange, &answer);
+            self.requests += usize::from(block.is_some() && request.until == Until::End);
+            self.responses += usize::from(answer.block.is_some() && response.until == Until::End);
+            self.meant.extend([request, response]);
+            exchanges.push(exchange);
+        }
+        self.capture.add(&exchanges).map_err(|error| error.to_string())
     }
 
-    /// Adds a frame that comes as bytes, with the answer that stands in a reply.
-    fn add_bytes(&mut self, what: &str, exchange: Exchange, answer: &Answer) -> Result<(), String> {
-        let block = match exchange.frame.as_slice() {
-            [0x5F, _, 47, length, block @ ..] if usize::from(*length) == block.len() => Block::of_request(block),
-            _ => None,
-        };
-        self.add(what, exchange, block.as_ref(), answer)
-    }
-
-    /// Plays a record on the library and on the twin: the library's exchange and the twin's answer.
-    fn play(&mut self, record: Record) -> Option<(Exchange, Answer)> {
-        let answer = match &record {
+    /// Plays a record on the library and on the twin: the library's exchanges and the twin's answers.
+    fn play(&mut self, record: Record) -> Vec<(Exchange, Answer)> {
+        let answers = match &record {
             Record::Cycle(axis, i) => {
                 self.twin.cycle((*axis).into(), i.flags, i.stw1, i.nsoll, i.nist, i.fault);
-                None
+                Vec::new()
             }
-            Record::Frame(farm, frame) => {
-                let mut reply = [0; REPLY_MIN];
-                let framed = self.twin.frame((*farm).into(), frame, &mut reply);
-                Some(Answer::of(framed.number, framed.stored, &reply[..framed.length.into()]))
-            }
+            Record::Frame(farm, sending, frame) => self.twins_answers(*farm, *sending, frame),
         };
-        journal::play(&mut self.library, record, 0).zip(answer)
+        journal::play(&mut self.library, record, 0).into_iter().zip(answers).collect()
+    }
+
+    /// The twin's answer to a frame; to a merged call those to its write and, where that is done, to its fetch.
+    fn twins_answers(&mut self, farm: u8, sending: Sending, frame: &[u8]) -> Vec<Answer> {
+        let mut answer = |sending: Sending, frame: &[u8]| {
+            let mut reply = [0; REPLY_MIN];
+            let framed = sending.twins(&mut self.twin, farm.into(), frame, &mut reply);
+            Answer::of(framed.number, framed.stored, &reply[..framed.length.into()])
+        };
+        if sending == Sending::Alone || frame.first() == Some(&READ) {
+            return vec![answer(sending, frame)];
+        }
+        let mut answers = vec![answer(Sending::Alone, frame)];
+        if answers[0].number == 0 {
+            answers.push(answer(Sending::Alone, &FETCH));
+        }
+        answers
     }
 
     fn journal(&mut self, what: &str, mut bytes: &[u8]) -> Result<(), String> {
         (self.library, self.twin) = (journal::station(), Station::fresh());
         while let Next::Record(record) = journal::next(&mut bytes).map_err(|error| error.to_string())? {
-            if let Some((exchange, answer)) = self.play(record) {
-                self.add_bytes(what, exchange, &answer)?;
-            }
+            let played = self.play(record);
+            self.add(what, played.into_iter().map(Spoken::of_bytes).collect())?;
         }
         Ok(())
     }
@@ -267,15 +299,14 @@ impl Bench {
         for line in steps {
             match &line.step {
                 Step::Loop { body, .. } => self.steps(case, body)?,
-                Step::Frame { farm, frame, wanted } => {
-                    let (number, stored, reply) = (wanted.number, wanted.stored, wanted.reply.clone());
-                    let answer = Answer::of(number, stored, &reply);
+                Step::Frame { farm, sending, frame, wanted } => {
                     let Ok(farm) = u8::try_from(*farm) else {
                         self.left_out += 1;
                         continue;
                     };
+                    let (number, stored, reply) = (wanted.number, wanted.stored, wanted.reply.clone());
                     let exchange = Exchange { record: 0, farm, frame: frame.clone(), number, stored, reply };
-                    self.add_bytes(case, exchange, &answer)?;
+                    self.add(case, exchange.by(*sending).into_iter().map(Spoken::of_example).collect())?;
                 }
                 _ => {}
             }
@@ -283,20 +314,23 @@ impl Bench {
         Ok(())
     }
 
-    /// Has the library work a request, and fetches the response.
+    /// Has the library work a request, and fetches the response: by two frames, and by the merged call.
     fn request(&mut self, what: &str, farm: u8, block: &Block) -> Result<(), String> {
         let bytes = block.bytes();
         let read = Block::of_request(&bytes).map(|block| fields_of_request(&block));
         if read != Some(fields_of_request(block)) {
             return Err(format!("{what}: the twin reads {bytes:02X?} otherwise than {block:?}"));
         }
-        for frame in [blocks::framed(&bytes), vec![0x5E, 0, 47, 240]] {
-            let Some((exchange, answer)) = self.play(Record::Frame(farm, frame)) else { return Ok(()) };
-            let (block, refused) = ((exchange.frame[0] == 0x5F).then_some(block), answer.number != 0);
-            self.add(what, exchange, block, &answer)?;
-            if refused {
-                break;
-            }
+        let write = blocks::framed(&bytes);
+        for (sending, frame) in
+            [(Sending::Alone, write.clone()), (Sending::Alone, FETCH.to_vec()), (Sending::Merged, write)]
+        {
+            let played = self.play(Record::Frame(farm, sending, frame)).into_iter();
+            let spoken = played.map(|(exchange, answer)| {
+                let block = (exchange.frame[0] != READ).then(|| block.clone());
+                Spoken { exchange, block, answer }
+            });
+            self.add(&format!("{what}, {sending}"), spoken.collect())?;
         }
         Ok(())
     }
@@ -351,8 +385,7 @@ impl Bench {
         let made_up: Vec<Block> = (0..MADE_UP).map(|at| parts::response(&mut random, (at % 256) as u8)).collect();
         let evened: Vec<Block> = made_up.iter().filter_map(evened).collect();
         for block in errors.chain(failed).chain(changed).chain(made_up).chain(evened) {
-            let (exchange, answer) = fetched(&block, &block.bytes());
-            self.add("a made-up response", exchange, None, &answer)?;
+            self.add("a made-up response", vec![fetched(&block, &block.bytes())])?;
         }
         Ok(())
     }
@@ -406,14 +439,13 @@ fn planted(path: PathBuf) -> Result<bool, String> {
             let reply = vec![0x5F, 0, 47, bytes.len() as u8];
             let answer = Answer::of(0, 0, &reply);
             let exchange = Exchange { record: 0, farm: 1, frame, number: 0, stored: 0, reply };
-            bench.add(&format!("byte {at} altered"), exchange, Some(block), &answer)?;
+            bench.add(&format!("byte {at} altered"), vec![Spoken { exchange, block: Some(block.clone()), answer }])?;
         }
     }
     for block in responses_of_every_kind() {
         let bytes = block.bytes();
         for at in 0..seen_in_response(&block).bytes {
-            let (exchange, answer) = fetched(&block, &altered(&bytes, at));
-            bench.add(&format!("byte {at} altered"), exchange, None, &answer)?;
+            bench.add(&format!("byte {at} altered"), vec![fetched(&block, &altered(&bytes, at))])?;
         }
     }
     bench.differences().map(found_all)
@@ -441,10 +473,11 @@ fn altered(bytes: &[u8], at: usize) -> Vec<u8> {
 }
 
 /// A fetch that is answered with these bytes, where this block was meant.
-fn fetched(block: &Block, bytes: &[u8]) -> (Exchange, Answer) {
+fn fetched(block: &Block, bytes: &[u8]) -> Spoken {
     let reply = [&[0x5E, 0, 47, bytes.len() as u8], bytes].concat();
     let answer = Answer { number: 0, stored: 0, length: bytes.len() as u32, block: Some(block.clone()) };
-    (Exchange { record: 0, farm: 1, frame: vec![0x5E, 0, 47, 240], number: 0, stored: 0, reply }, answer)
+    let exchange = Exchange { record: 0, farm: 1, frame: FETCH.to_vec(), number: 0, stored: 0, reply };
+    Spoken { exchange, block: None, answer }
 }
 
 // ---- Blocks ----
