@@ -1,6 +1,6 @@
 /* A host of the station, to start from: it lends the memory, runs four control cycles on axis 1, lets farm 1 write two
- * level marks and fetch the response, and lets farm 2 try farm 1's frame. Every answer carries a number, 0 for done;
- * a host looks at it before anything else. Prints document 01's listing ("Journal program"). */
+ * level marks, and lets farm 2 try farm 1's frame. Every answer carries a number, 0 for done; a host looks at it before
+ * anything else. Prints document 01's listing ("Journal program"), with a write and its fetch as one line. */
 #include "llinkhiro.h"
 
 #include <inttypes.h>
@@ -10,7 +10,7 @@
 /* Numbers that this host meets; the header lists them all. */
 enum { DONE = 0, AXIS_NOT_THE_CALLERS = 11 };
 
-/* The reply memory that every frame needs: 4 bytes of header and the largest block. */
+/* The reply memory that every request needs: 4 bytes of header and the largest block. */
 enum { REPLY = 244 };
 
 /* The memory that the station lives in. It is ours: to keep it over a restart, write these bytes to a file. */
@@ -24,9 +24,6 @@ static const uint8_t write_marks[] = {
     0x10, 0x02, 0x75, 0x31, 0x00, 0x00, /* value, 2 elements, PNU 30001, from sub-index 0 */
     0x42, 0x02, 0x03, 0xE8, 0x0B, 0xB9, /* words, 2 values: 1000 and 3001 */
 };
-
-/* Fetches the response that waits, up to 240 bytes of it. */
-static const uint8_t fetch[] = { 0x5E, 0x00, 0x2F, 0xF0 };
 
 static void stop_unless(uint8_t wanted, uint8_t number, const char *call)
 {
@@ -45,14 +42,15 @@ static void cycle(uint32_t axis, uint16_t stw1, int16_t nsoll)
     printf("c %" PRIu32 " S%u %04X %" PRId32 "\n", axis, (unsigned)got.state, (unsigned)got.status, got.rpm);
 }
 
-/* One frame, with the number that is due. A refused frame may have a reply too: it says why. */
-static void frame(uint32_t farm, const uint8_t *bytes, size_t len, uint8_t due)
+/* A write and the fetch of its response, with the number that is due. A refused write may have a reply too: it says
+ * why. A host that is sent the two as frames of their own gives each to llinkhiro_frame; the arguments are the same. */
+static void exchange(uint32_t farm, const uint8_t *bytes, size_t len, uint8_t due)
 {
     uint8_t reply[REPLY];
-    struct llinkhiro_framed got = llinkhiro_frame(station, station_len, farm, bytes, len, reply, sizeof reply);
+    struct llinkhiro_framed got = llinkhiro_exchange(station, station_len, farm, bytes, len, reply, sizeof reply);
 
-    stop_unless(due, got.number, "frame");
-    printf("f %" PRIu32 " %u ", farm, (unsigned)got.stored);
+    stop_unless(due, got.number, "exchange");
+    printf("e %" PRIu32 " %u ", farm, (unsigned)got.stored);
     for (size_t i = 0; i < got.length; i++)
         printf("%02X", (unsigned)reply[i]);
     printf("%s\n", got.length == 0 ? "-" : "");
@@ -73,9 +71,8 @@ int main(void)
     cycle(1, 0x047F, 0x2000); /* operation at half speed */
     cycle(1, 0x047D, 0);      /* coast stop */
 
-    frame(1, write_marks, sizeof write_marks, DONE); /* mark 0 is stored, mark 1 is not */
-    frame(1, fetch, sizeof fetch, DONE);             /* the response: 82, value out of limits */
-    frame(2, write_marks, sizeof write_marks, AXIS_NOT_THE_CALLERS);
+    exchange(1, write_marks, sizeof write_marks, DONE); /* mark 0 is stored, mark 1 is not: 82, value out of limits */
+    exchange(2, write_marks, sizeof write_marks, AXIS_NOT_THE_CALLERS);
 
     free(station);
     return EXIT_SUCCESS;

@@ -2,7 +2,8 @@
  *
  * Each call is made on memories of its own with guard bytes of a known pattern on both sides, and everything is checked
  * after it: the answer, the reply, the reply memory past it, the frame, the station and all guards. A refused call must
- * leave the whole station as it was, an accepted one every part but its own.
+ * leave the whole station as it was, an accepted one every part but its own. Every frame is sent by the merged call
+ * too, on a copy of the station; where the write is accepted, it is held against the write and a fetch in turn.
  *
  *   test       names what failed, counts each group, and ends with `N checks, M failed`
  *   test -v    names every check
@@ -194,6 +195,21 @@ static bool guards_kept(const struct memory *lent)
     return kept;
 }
 
+/* ---- Frames used in many places ------------------------------------------------------------------------------ */
+
+/* Farm 1 writes marks 1000 and 3001; the second is over its limit of 3000. */
+static const char write_marks[] = "5F 00 2F 10  07 02 01 01  10 02 75 31 00 00  42 02 03 E8 0B B9";
+enum { MARKS_STORED = 1 };
+static const char marks_response[] = "5E 00 2F 08  07 82 01 01  44 01 00 02";
+/* Farm 1 reads PNU 930, which is 1. Eight bytes wait afterwards. */
+static const char read_930[] = "5F 00 2F 0A  07 01 01 01  10 01 03 A2 00 00";
+static const char response_930[] = "5E 00 2F 08  07 01 01 01  42 01 00 01";
+/* Farm 1 reads all four marks. */
+static const char read_marks[] = "5F 00 2F 0A  08 01 01 01  10 04 75 31 00 00";
+/* Farm 2 writes its mark 2000. */
+static const char mark_of_farm_2[] = "5F 00 2F 0E  07 02 02 01  10 01 75 31 00 00  42 01 07 D0";
+static const char fetch[] = "5E 00 2F F0";
+
 /* ---- Calls, each with all that must hold after it ------------------------------------------------------------ */
 
 static struct memory station; /* the one that the calls below are made on */
@@ -206,6 +222,15 @@ static size_t part_size(void)
 static uint8_t *part(uint32_t axis)
 {
     return start(&station) + (axis - 1) * part_size();
+}
+
+/* The first `len` bytes of the station in a memory of their own. */
+static struct memory station_again(size_t len)
+{
+    struct memory again = lend(len);
+
+    memcpy(start(&again), start(&station), len);
+    return again;
 }
 
 /* The station is as before, but for the owner's part; owner 0 is nobody. */
@@ -265,15 +290,19 @@ struct sending { /* a frame and its answer */
     struct bytes reply;
 };
 
-static void send(const char *name, struct sending s)
+/* The calls that take a frame, llinkhiro_frame and llinkhiro_exchange, have one face. */
+typedef struct llinkhiro_framed frame_call(uint8_t *station, size_t station_len, uint32_t farm, const uint8_t *frame,
+                                           size_t frame_len, uint8_t *reply, size_t reply_len);
+
+static void send_by(frame_call *call, const char *name, struct sending s)
 {
     struct memory frame = lend(s.frame.len + s.more), reply = lend(s.reply_len);
 
     memset(start(&frame), 0, frame.len);
     memcpy(start(&frame), s.frame.at, s.frame.len);
     uint8_t *frame_before = copy_of(&frame), *reply_before = copy_of(&reply), *before = copy_of(&station);
-    struct llinkhiro_framed got = llinkhiro_frame(start(&station), station.len, s.farm, start(&frame), frame.len,
-                                                  start(&reply), reply.len);
+    struct llinkhiro_framed got =
+        call(start(&station), station.len, s.farm, start(&frame), frame.len, start(&reply), reply.len);
     size_t replied = s.reply.len;
 
     check_number(name, "number", got.number, s.number);
@@ -292,11 +321,69 @@ static void send(const char *name, struct sending s)
     free(before);
 }
 
+/* The reply of a fetch after the write, both made on the present station. Each is checked where it is sent itself. */
+static struct bytes written_and_fetched(const struct sending *s)
+{
+    struct bytes reply = { 0, { 0 } }, read = hex(fetch);
+
+    llinkhiro_frame(start(&station), station.len, s->farm, s->frame.at, s->frame.len, reply.at, REPLY);
+    reply.len = llinkhiro_frame(start(&station), station.len, s->farm, read.at, read.len, reply.at, REPLY).length;
+    return reply;
+}
+
+/* By the merged call, as the names of its checks say. */
+static void send_at_once(const char *name, struct sending s)
+{
+    char title[192];
+
+    snprintf(title, sizeof title, "merged call, %s", name);
+    send_by(llinkhiro_exchange, title, s);
+}
+
+/* The merged call of a frame, from its answer by llinkhiro_frame. R-3: a read is 4, after 1 to 3; a refused write is
+ * the write alone; an accepted one is the write and a fetch in turn. */
+static void send_merged(const char *name, struct sending s)
+{
+    struct memory present = station, in_turn = station_again(station.len), at_once = station_again(station.len);
+
+    if (s.frame.len > 0 && s.frame.at[0] == 0x5E && (s.number == 0 || s.number > 4)) {
+        s.number = 4;
+        s.reply.len = 0;
+    }
+    station = in_turn;
+    if (s.number == 0)
+        s.reply = written_and_fetched(&s);
+    station = at_once;
+    send_at_once(name, s);
+    if (s.number == 0) {
+        check_bytes(name, "station after the merged call", start(&at_once), start(&in_turn), station.len);
+        send_by(llinkhiro_frame, "none waits after a merged call",
+                (struct sending){ s.farm, hex(fetch), 0, REPLY, 8, 0, hex("DE 80 B5 00") });
+    }
+    station = present;
+    give_back(&in_turn);
+    give_back(&at_once);
+}
+
+/* A frame by both calls: by the merged one on a copy of the station, by llinkhiro_frame on the station itself. */
+static void send(const char *name, struct sending s)
+{
+    send_merged(name, s);
+    send_by(llinkhiro_frame, name, s);
+}
+
 /* The common case: a reply memory of exactly 244 bytes. */
 static void frame(const char *name, uint32_t farm, const char *bytes, uint8_t number, uint16_t stored,
                   const char *reply)
 {
     send(name, (struct sending){ farm, hex(bytes), 0, REPLY, number, stored, hex(reply) });
+}
+
+/* The same for the merged call alone, on the station itself. */
+static void exchange(const char *name, uint32_t farm, const char *bytes, uint8_t number, uint16_t stored,
+                     const char *reply)
+{
+    send_at_once(name, (struct sending){ farm, hex(bytes), 0, REPLY, number, stored, hex(reply) });
 }
 
 /* Another station memory in place of the present one: a fresh station's bytes, cut or followed by the pattern. */
@@ -316,19 +403,6 @@ static void fresh_station(void)
 {
     station_of(llinkhiro_size());
 }
-
-/* ---- Frames used in many places ------------------------------------------------------------------------------ */
-
-/* Farm 1 writes marks 1000 and 3001; the second is over its limit of 3000. */
-static const char write_marks[] = "5F 00 2F 10  07 02 01 01  10 02 75 31 00 00  42 02 03 E8 0B B9";
-enum { MARKS_STORED = 1 };
-static const char marks_response[] = "5E 00 2F 08  07 82 01 01  44 01 00 02";
-/* Farm 1 reads PNU 930, which is 1. Eight bytes wait afterwards. */
-static const char read_930[] = "5F 00 2F 0A  07 01 01 01  10 01 03 A2 00 00";
-static const char response_930[] = "5E 00 2F 08  07 01 01 01  42 01 00 01";
-/* Farm 1 reads all four marks. */
-static const char read_marks[] = "5F 00 2F 0A  08 01 01 01  10 04 75 31 00 00";
-static const char fetch[] = "5E 00 2F F0";
 
 /* ---- Groups of checks ---------------------------------------------------------------------------------------- */
 
@@ -503,8 +577,7 @@ static void spoil(enum spoiling how, uint32_t axis)
         memset(part(axis), 0xFF, part_size());
         return;
     }
-    station = lend(whole.len - 1);
-    memcpy(start(&station), start(&whole), station.len);
+    station = station_again(whole.len - 1);
     give_back(&whole);
 }
 
@@ -623,6 +696,37 @@ static void frame_headers(void)
     frame("7: read wants 255", 1, "5E 00 2F FF", 7, 0, "DE 80 B1 00");
     frame("8: read with none waiting", 1, "5E 00 2F F0", 8, 0, "DE 80 B5 00");
     frame("8: read of 0 bytes with none waiting", 1, "5E 00 2F 00", 8, 0, "DE 80 B5 00");
+}
+
+/* Refusals before 8, made on an idle axis and with a response waiting, which outlives them. */
+static void idle_and_waiting(void (*refusals)(void))
+{
+    fresh_station();
+    refusals();
+    frame("8: none waits after refusals", 1, fetch, 8, 0, "DE 80 B5 00");
+    frame("response left waiting", 1, read_930, 0, 0, "5F 00 2F 0A");
+    refusals();
+    frame("the response outlived refusals", 1, fetch, 0, 0, response_930);
+}
+
+static void other_functions(void)
+{
+    for (unsigned function = 0; function < 256; function++) {
+        struct bytes write = hex(read_930), read = hex(fetch);
+
+        if (function == 0x5E || function == 0x5F)
+            continue;
+        write.at[0] = read.at[0] = (uint8_t)function;
+        send(named("4: function %02X before a block", function),
+             (struct sending){ 1, write, 0, REPLY, 4, 0, hex("") });
+        send(named("4: function %02X alone", function), (struct sending){ 1, read, 0, REPLY, 4, 0, hex("") });
+    }
+}
+
+/* Number 4 for every function byte but the two. */
+static void functions(void)
+{
+    idle_and_waiting(other_functions);
 }
 
 /* Number 7 for frames too long for a length byte: a length of more than 8 or 16 bits does not become a small one. */
@@ -754,7 +858,77 @@ static void waiting(void)
     free(idle);
 }
 
-static const char mark_of_farm_2[] = "5F 00 2F 0E  07 02 02 01  10 01 75 31 00 00  42 01 07 D0";
+/* Reads in every form: whole and cut; of other slots and indices; wanting nothing, too little, just what waits, too
+ * much; with bytes after them. */
+static const char *const reads[] = {
+    "5E", "5E 00", "5E 00 2F", "5E 01 2F", fetch, "5E 00 2F 00", "5E 00 2F 07", "5E 00 2F 08", "5E 00 2F F1",
+    "5E 00 2F FF", "5E 01 2F F0", "5E FF 2F 08", "5E 00 2E F0", "5E 00 00 08", "5E 00 FF 00", "5E FF FF FF FF",
+    "5E 00 2F F0 00", "5E 00 2F 01 00", "5E 00 2F 0A  07 01 01 01  10 01 03 A2 00 00",
+    "5E 00 2F 0A  00 00 02 00  10 01 03 A2 00 00",
+};
+
+static void reads_at_once(void)
+{
+    static const size_t lens[] = { 0, REPLY - 1, REPLY, REPLY + 1, 65536 };
+
+    for (size_t i = 0; i < sizeof reads / sizeof reads[0]; i++) {
+        for (size_t j = 0; j < sizeof lens / sizeof lens[0]; j++)
+            send_at_once(named("%s with %zu bytes for the reply", reads[i], lens[j]),
+                         (struct sending){ 1, hex(reads[i]), 0, lens[j], lens[j] < REPLY ? 3 : 4, 0, hex("") });
+        exchange(named("1: %s of farm 17", reads[i]), 17, reads[i], 1, 0, "");
+    }
+}
+
+/* Number 4 of the merged call for every read, after 1 to 3. */
+static void merged_reads(void)
+{
+    idle_and_waiting(reads_at_once);
+    memset(part(1), 0, part_size());
+    exchange("2: a read of a part all 00", 1, fetch, 2, 0, "");
+}
+
+/* Merged calls one after the other: reads, changes, errors and a denial. What is stored is the write's, and no response
+ * is left for the next. */
+static void merged_calls(void)
+{
+    fresh_station();
+    exchange("marks written", 1, write_marks, 0, MARKS_STORED, marks_response);
+    exchange("11: marks denied", 2, write_marks, 11, 0, "DF 80 B6 00");
+    exchange("marks read", 1, read_marks, 0, 0, "5E 00 2F 0E  08 01 01 01  42 04 03 E8 00 00 00 00 00 00");
+    exchange("all stored", 1,
+             "5F 00 2F 1A  09 02 01 02  10 02 75 31 00 02  10 01 27 7F 00 00  42 02 0B B8 00 01  06 01 03 E8", 0, 3,
+             "5E 00 2F 04  09 02 01 02");
+    exchange("all read", 1, "5F 00 2F 16  0A 01 01 03  10 04 75 31 00 00  10 01 27 7F 00 00  10 01 03 C5 00 01", 0, 0,
+             "5E 00 2F 16  0A 01 01 03  42 04 03 E8 00 00 0B B8 00 01  42 01 03 E8  41 01 29 00");
+    exchange("an error beside a value", 1, "5F 00 2F 10  0B 01 01 02  10 05 75 31 00 00  10 01 03 A2 00 00", 0, 0,
+             "5E 00 2F 0C  0B 81 01 02  44 01 00 03  42 01 00 01");
+    exchange("farm 16", 16, "5F 00 2F 0A  0C 01 10 01  10 01 03 A2 00 00", 0, 0,
+             "5E 00 2F 08  0C 01 10 01  42 01 00 01");
+    cycle("a cycle goes on", (struct turn){ .axis = 1, .stw1 = 0x047E, .state = 2, .status = 0x0331 });
+    exchange("its word read", 1, "5F 00 2F 0A  0D 01 01 01  10 01 27 74 00 00", 0, 0,
+             "5E 00 2F 08  0D 01 01 01  42 01 04 7E");
+    frame("8: none waits", 1, fetch, 8, 0, "DE 80 B5 00");
+    frame("a write by itself", 1, read_930, 0, 0, "5F 00 2F 0A");
+    frame("its fetch", 1, fetch, 0, 0, response_930);
+}
+
+/* Number 8 of the merged call: a response that somebody forgot waits on, and is fetched as it was. */
+static void merged_waiting(void)
+{
+    fresh_station();
+    frame("a write whose fetch is forgotten", 1, read_930, 0, 0, "5F 00 2F 0A");
+    exchange("8: the same request", 1, read_930, 8, 0, "DF 80 B5 00");
+    exchange("8: a change", 1, write_marks, 8, 0, "DF 80 B5 00");
+    exchange("8: before 10", 1, "5F 00 2F 00", 8, 0, "DF 80 B5 00");
+    exchange("8: before 11", 1, "5F 00 2F 0A  07 01 02 01  10 01 03 A2 00 00", 8, 0, "DF 80 B5 00");
+    exchange("7: a byte less", 1, "5F 00 2F 0A  07 01 01 01  10 01 03 A2 00", 7, 0, "DF 80 B1 00");
+    exchange("4: the forgotten fetch", 1, fetch, 4, 0, "");
+    exchange("farm 2 has none waiting", 2, mark_of_farm_2, 0, 1, "5E 00 2F 04  07 02 02 01");
+    frame("9: wants one too few", 1, "5E 00 2F 07", 9, 0, "DE 80 B7 00");
+    frame("fetched at last", 1, fetch, 0, 0, response_930);
+    exchange("goes through then", 1, write_marks, 0, MARKS_STORED, marks_response);
+    exchange("and again", 1, read_930, 0, 0, response_930);
+}
 
 static void farm_1_begins(void)
 {
@@ -860,8 +1034,7 @@ static void moved_station(void)
 {
     fresh_station();
     frame("before the move", 1, write_marks, 0, MARKS_STORED, "5F 00 2F 10");
-    struct memory other = lend(station.len), first = station;
-    memcpy(start(&other), start(&station), station.len);
+    struct memory other = station_again(station.len), first = station;
     station = other;
     frame("moved station: fetch", 1, fetch, 0, 0, marks_response);
     frame("moved station: read", 1, read_930, 0, 0, "5F 00 2F 0A");
@@ -905,7 +1078,9 @@ static void full_reply(void)
     fresh_station();
     send("a response of 240 bytes", (struct sending){ 1, request, 0, REPLY, 0, 0, hex("5F 00 2F 1C") });
     frame("9: wants 239 of 240", 1, "5E 00 2F EF", 9, 0, "DE 80 B7 00");
+    exchange("8: 240 bytes wait", 1, read_930, 8, 0, "DF 80 B5 00");
     send("240 bytes fetched", (struct sending){ 1, hex(fetch), 0, REPLY, 0, 0, response });
+    send_at_once("240 bytes", (struct sending){ 1, request, 0, REPLY, 0, 0, response });
 }
 
 /* 39 parameters in 238 bytes, each I32 so that the response has 238 bytes too; 40 do not fit a length of 240. */
@@ -1143,6 +1318,8 @@ static void offsets(void)
                      (int64_t)offset);
         marks();
         waiting();
+        merged_calls();
+        merged_waiting();
         faults();
         full_reply();
     }
@@ -1161,6 +1338,9 @@ static void placed(enum placing here)
     blocks();
     reply_sizes();
     waiting();
+    merged_reads();
+    merged_calls();
+    merged_waiting();
     overwritten_parts();
     four_947();
     full_reply();
@@ -1190,11 +1370,11 @@ static void fenced_below(void)
     placed(FENCED_BELOW);
 }
 
-/* Memory that nobody wrote to: fresh reads none of the station's, a frame none of the reply's. */
+/* Memory that nobody wrote to: fresh reads none of the station's, a frame and a merged call none of the reply's. */
 static void unwritten(void)
 {
     size_t size = llinkhiro_size();
-    uint8_t *lent = memory_or_stop(size), *reply = memory_or_stop(REPLY);
+    uint8_t *lent = memory_or_stop(size), *reply = memory_or_stop(REPLY), *merged = memory_or_stop(REPLY);
     struct bytes request = hex(read_930), read = hex(fetch), response = hex(response_930);
 
     fresh_station();
@@ -1203,14 +1383,19 @@ static void unwritten(void)
     struct llinkhiro_framed denied = llinkhiro_frame(lent, size, 2, request.at, request.len, reply, REPLY);
     struct llinkhiro_framed written = llinkhiro_frame(lent, size, 1, request.at, request.len, reply, REPLY);
     struct llinkhiro_framed fetched = llinkhiro_frame(lent, size, 1, read.at, read.len, reply, REPLY);
+    struct llinkhiro_framed exchanged = llinkhiro_exchange(lent, size, 1, request.at, request.len, merged, REPLY);
     check_number("unwritten", "denied", denied.number, 11);
     check_number("unwritten", "written", written.number, 0);
     check_number("unwritten", "fetched", fetched.number, 0);
     check_number("unwritten", "length", fetched.length, 12);
     check_bytes("unwritten", "response", reply, response.at, response.len);
+    check_number("unwritten", "exchanged", exchanged.number, 0);
+    check_number("unwritten", "length exchanged", exchanged.length, 12);
+    check_bytes("unwritten", "response exchanged", merged, response.at, response.len);
     check_bytes("unwritten", "station idle", lent, start(&station), size);
     free(lent);
     free(reply);
+    free(merged);
 }
 
 /* ---- All of them --------------------------------------------------------------------------------------------- */
@@ -1232,10 +1417,14 @@ static const struct group {
     { "parts moved", moved_parts },
     { "number 3 and reply sizes", reply_sizes },
     { "numbers 4 to 8", frame_headers },
+    { "number 4, function bytes", functions },
     { "number 7, long frames", long_frames },
     { "numbers 10 and 11", blocks },
     { "order of a frame's numbers", frame_order },
     { "numbers 8 and 9, waiting response", waiting },
+    { "merged call, number 4 for reads", merged_reads },
+    { "merged calls", merged_calls },
+    { "merged call, number 8", merged_waiting },
     { "neighbours", neighbours },
     { "station moved", moved_station },
     { "four reads of 947", four_947 },
