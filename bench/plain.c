@@ -1,5 +1,5 @@
-/* The station of document 01, with R-2 of 02, in plain C on the same memory as the library: a yardstick for `./llinkhiro bench`,
- * not a product. The face is that of llinkhiro.h under other names, so that one program can hold both. */
+/* The station of document 01, with R-2 and R-3 of 02, in plain C on the same memory as the library: a yardstick for
+ * `./llinkhiro bench`, not a product. The face is that of llinkhiro.h under other names, so that one program can hold both. */
 #include "llinkhiro.h"
 
 #include <stdbool.h>
@@ -522,4 +522,18 @@ struct llinkhiro_framed plain_frame(uint8_t *station, size_t station_len, uint32
         return (struct llinkhiro_framed){ HEADER, 0, (uint8_t)number };
     }
     return frame[0] == READ ? fetch(part, reply) : work(part, frame, reply);
+}
+
+/* A write and the fetch of its response. A read is refused as no frame at all would be: 4, after 1 to 3. */
+struct llinkhiro_framed plain_exchange(uint8_t *station, size_t station_len, uint32_t farm, const uint8_t *frame,
+                                       size_t frame_len, uint8_t *reply, size_t reply_len)
+{
+    bool reads = frame_len > 0 && frame[0] == READ;
+    struct llinkhiro_framed written = plain_frame(station, station_len, farm, frame, reads ? 0 : frame_len, reply, reply_len);
+
+    if (written.number != 0)
+        return written;
+    struct llinkhiro_framed fetched = fetch((struct part *)station + (farm - 1), reply);
+    fetched.stored = written.stored;
+    return fetched;
 }

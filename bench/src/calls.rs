@@ -2,9 +2,9 @@
 
 use crate::measure::{answers, run, started};
 use crate::outside::Started;
-use crate::rows::{rows, Row};
+use crate::rows::{in_one_call, in_two_calls, rows, Row, MERGED};
 use crate::sides::{Ours, Plain, Side, Twin};
-use crate::table::{least, line, slope, Costs, NONE, SIDES};
+use crate::table::{least, less, line, saved, slope, Costs, SIDES};
 use std::error::Error;
 use std::io;
 use std::time::Instant;
@@ -16,23 +16,49 @@ const ROUNDS: usize = 100;
 /// Passes over a row's calls while instructions are counted; they are the same in each, so a few do.
 const COUNTED_PASSES: usize = 50;
 
-/// Measures every row and prints its line, then how the cost grows with the addresses.
+/// A row with what a unit of it costs.
+struct Measured<'a> {
+    row: &'a Row,
+    time: Costs,
+    count: Costs,
+}
+
+/// Measures every row and prints its line, then how the cost grows with the addresses and what the merged call saves.
 pub fn measure(counter: &str) -> Result<(), Box<dyn Error>> {
     let rows = rows();
     for row in &rows {
         alike(row).map_err(|why| format!("{}: {why}", row.name))?;
     }
-    let (mut times, mut counts) = (Vec::new(), Vec::new());
+    let mut measured = Vec::new();
     for (row, time) in rows.iter().zip(timed(&rows)) {
         let count = counted(counter, row)?;
         line(&row.name, time, count);
-        if let Some(addresses) = row.addresses {
-            times.push((addresses as f64, time));
-            counts.push((addresses as f64, count));
-        }
+        measured.push(Measured { row, time, count });
     }
-    line("each further address read", slope(&times), slope(&counts));
-    Ok(())
+    growth(&measured);
+    let savings = MERGED.map(|what| saving(&measured, what));
+    Ok(savings.into_iter().collect::<Result<(), String>>()?)
+}
+
+fn growth(measured: &[Measured]) {
+    let points = |cost: fn(&Measured) -> Costs| -> Vec<(f64, Costs)> {
+        measured.iter().filter_map(|one| Some((one.row.addresses? as f64, cost(one)))).collect()
+    };
+    line("each further address read", slope(&points(|one| one.time)), slope(&points(|one| one.count)));
+}
+
+/// What the merged call saves of the write and the fetch. To save less than nothing is a failure of ours, and so is a row that is
+/// missing or was not counted.
+fn saving(measured: &[Measured], what: &str) -> Result<(), String> {
+    let find = |name: String| measured.iter().find(|one| one.row.name == name).ok_or(format!("no row '{name}'"));
+    let (two, one) = (find(in_two_calls(what))?, find(in_one_call(what))?);
+    let count = less(two.count, one.count);
+    saved(&format!("merging saves, {what}"), less(two.time, one.time), count);
+    match count[0] {
+        Some(saved) if saved >= 0.0 => Ok(()),
+        Some(saved) => Err(format!("{what}: our merged call takes {} instructions more than write and fetch", -saved)),
+        None => Err(format!("{what}: our instructions were not counted")),
+    }
 }
 
 /// All three answer alike, with the row's number, and a later pass as the first one.
@@ -104,13 +130,8 @@ fn time<S: Side>(side: &mut S, row: &Row, passes: usize) -> f64 {
 }
 
 fn counted(counter: &str, row: &Row) -> io::Result<Costs> {
-    let mut counts = NONE;
-    if !counter.is_empty() {
-        for (count, side) in counts.iter_mut().zip(SIDES) {
-            *count = Some(instructions(counter, row, side)?);
-        }
-    }
-    Ok(counts)
+    let [ours, twin, plain] = SIDES.map(|side| instructions(counter, row, side));
+    Ok([Some(ours?), Some(twin?), Some(plain?)])
 }
 
 /// Instructions of one unit of the row, by this program under a counter: what twice the passes take more.

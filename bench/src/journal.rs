@@ -28,11 +28,8 @@ pub fn measure(emulator: &str, counter: &str, journal: &str, job: &Job) -> Resul
     }
     let records = records(journal)? as f64;
     let times = timed(&ours, &twin, journal)?.map(|time| time / records);
-    let counts = match counter {
-        "" => [None; 2],
-        _ => counted(&both(counter), journal)?.map(|count| Some(count / records)),
-    };
-    line(&format!("journal of {records} records, {}", job.done), row(times.map(Some)), row(counts));
+    let counts = counted(&both(counter), journal)?.map(|count| count / records);
+    line(&format!("journal of {records} records, {}", job.done), row(times), row(counts));
     Ok(())
 }
 
@@ -46,8 +43,8 @@ fn records(journal: &str) -> io::Result<usize> {
     Ok(records)
 }
 
-fn row([ours, twin]: [Option<f64>; 2]) -> Costs {
-    [ours, twin, None]
+fn row([ours, twin]: [f64; 2]) -> Costs {
+    [Some(ours), Some(twin), None]
 }
 
 fn timed(ours: &Started, twin: &Started, journal: &str) -> io::Result<[f64; 2]> {

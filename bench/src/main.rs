@@ -5,9 +5,11 @@
 //!
 //!     bench EMULATOR COUNTER JOURNAL REPLAY TWIN-REPLAY REPORT TWIN-REPORT
 //!
-//! The first two are the words that start a program of this processor, as it is and with its instructions counted; either may be
-//! empty. The last four are programs that play the file JOURNAL, two for its lines and two for its season report.
+//! The first two are the words that start a program of this processor, as it is (there may be none) and with its instructions
+//! counted. The last four are programs that play the file JOURNAL, two for its lines and two for its season report.
 //! `bench pass ROW SIDE PASSES` makes one side's calls of a row, to be counted.
+//!
+//! It fails where our merged call takes more instructions than our write and our fetch of the same request.
 
 #![deny(warnings)]
 
@@ -46,7 +48,7 @@ fn main() -> ExitCode {
 
 fn bench(emulator: &str, counter: &str, journal: &str, jobs: &[Job]) -> Result<(), Box<dyn Error>> {
     println!(
-        "A cycle, a write and its fetch, a frame, a record: the best of many rounds, in which the sides take turns."
+        "A cycle, a write and its fetch, a merged call, a frame, a record: the best of many rounds, in which the sides take turns."
     );
     if !emulator.is_empty() {
         println!("UNDER AN EMULATOR ({emulator}): the times are its own, and only their ratios speak.");

@@ -5,7 +5,7 @@ use crate::sides::Side;
 use std::hint::black_box;
 use twin::{Cycled, Framed, REPLY_MIN};
 
-/// What one call answered; a frame's whole reply memory is part of it.
+/// What one call answered; the whole reply memory is part of it.
 #[derive(Debug, PartialEq, Eq)]
 pub enum Answer {
     Cycle(Cycled),
@@ -31,12 +31,16 @@ pub fn answers<S: Side>(row: &Row, passes: usize) -> Vec<Answer> {
 fn answer<S: Side>(side: &mut S, call: &Call) -> Answer {
     match call {
         Call::Cycle(cycle) => Answer::Cycle(side.cycle(cycle).into()),
-        Call::Frame { farm, frame } => {
-            let mut reply = vec![0xA5; REPLY_MIN];
-            let framed: Framed = side.frame(*farm, frame, &mut reply).into();
-            Answer::Frame(framed, reply)
-        }
+        Call::Frame { farm, frame } => framed(|reply| side.frame(*farm, frame, reply)),
+        Call::Exchange { farm, frame } => framed(|reply| side.exchange(*farm, frame, reply)),
     }
+}
+
+/// The answer of a call that replies.
+fn framed<F: Into<Framed>>(call: impl FnOnce(&mut [u8]) -> F) -> Answer {
+    let mut reply = vec![0xA5; REPLY_MIN];
+    let framed = call(&mut reply).into();
+    Answer::Frame(framed, reply)
 }
 
 /// A side where the row's calls begin.
@@ -59,6 +63,9 @@ pub fn run<S: Side>(side: &mut S, row: &Row, passes: usize) {
                 }
                 Call::Frame { farm, frame } => {
                     black_box(side.frame(*farm, frame, black_box(&mut reply)));
+                }
+                Call::Exchange { farm, frame } => {
+                    black_box(side.exchange(*farm, frame, black_box(&mut reply)));
                 }
             }
         }

@@ -11,9 +11,11 @@ pub struct Cycle {
     pub fault: u16,
 }
 
+/// An exchange is the merged call.
 pub enum Call {
     Cycle(Cycle),
     Frame { farm: u32, frame: Vec<u8> },
+    Exchange { farm: u32, frame: Vec<u8> },
 }
 
 /// One row. `calls` end where they began, so that they can be made again and again.
@@ -30,16 +32,38 @@ pub struct Row {
     pub number: u8,
 }
 
+/// Requests of farm 1, each a block. Written and fetched they are one row, by the merged call another.
+struct Requests {
+    what: String,
+    blocks: Vec<Vec<u8>>,
+    addresses: Option<usize>,
+}
+
+/// Which requests are sent by the merged call too, which may cost no more than the write and the fetch.
+pub const MERGED: [&str; 4] = ["1 read", "39 read", "1 element changed", "18 elements changed"];
+
 const STANDSTILL: u32 = 1;
 /// The most parameters of a request: 4 + 39 * 6 = 238 bytes, and document 01 allows no more.
 const MOST_ADDRESSES: usize = 39;
 
 pub fn rows() -> Vec<Row> {
+    let mut requests = Vec::from([1, 10, 20, MOST_ADDRESSES].map(read));
+    requests.extend([change("1 element changed", one_element), change("18 elements changed", all_elements)]);
     let mut rows = vec![operation(), walk()];
-    rows.extend([1, 10, 20, MOST_ADDRESSES].map(read));
-    rows.extend([change("1 element changed", one_element), change("18 elements changed", all_elements)]);
+    rows.extend(requests.iter().map(Requests::written_and_fetched));
+    rows.extend(requests.iter().filter(|of| MERGED.contains(&of.what.as_str())).map(Requests::merged));
     rows.push(denied());
     rows
+}
+
+/// The name of the row that writes and fetches.
+pub fn in_two_calls(what: &str) -> String {
+    format!("write and fetch, {what}")
+}
+
+/// The name of the row of merged calls.
+pub fn in_one_call(what: &str) -> String {
+    format!("merged call, {what}")
 }
 
 fn cycle(flags: u32, stw1: u16, nsoll: i16, nist: i16, fault: u16) -> Call {
@@ -85,14 +109,31 @@ fn walk() -> Row {
     Row { name, start: vec![], units: calls.len(), calls, addresses: None, number: 0 }
 }
 
-fn write(farm: u32, block: &[u8]) -> Call {
+fn write(block: &[u8]) -> Vec<u8> {
     let mut frame = vec![0x5F, 0x00, 0x2F, u8::try_from(block.len()).expect("a block has at most 240 bytes")];
     frame.extend(block);
-    Call::Frame { farm, frame }
+    frame
 }
 
-fn fetch(farm: u32) -> Call {
-    Call::Frame { farm, frame: vec![0x5E, 0x00, 0x2F, 0xF0] }
+fn fetch() -> Vec<u8> {
+    vec![0x5E, 0x00, 0x2F, 0xF0]
+}
+
+impl Requests {
+    /// The row of this name, where these calls send a write.
+    fn row(&self, name: String, calls: fn(Vec<u8>) -> Vec<Call>) -> Row {
+        let calls = self.blocks.iter().flat_map(|block| calls(write(block))).collect();
+        Row { name, start: vec![], calls, units: self.blocks.len(), addresses: None, number: 0 }
+    }
+
+    fn written_and_fetched(&self) -> Row {
+        let calls = |write| [write, fetch()].map(|frame| Call::Frame { farm: 1, frame }).into();
+        Row { addresses: self.addresses, ..self.row(in_two_calls(&self.what), calls) }
+    }
+
+    fn merged(&self) -> Row {
+        self.row(in_one_call(&self.what), |frame| vec![Call::Exchange { farm: 1, frame }])
+    }
 }
 
 fn address(pnu: u16, first: u16, elements: u8) -> Vec<u8> {
@@ -103,7 +144,7 @@ fn address(pnu: u16, first: u16, elements: u8) -> Vec<u8> {
 }
 
 /// Each address names one element; they go through all parameters in turn and, in an array, through its elements.
-fn read(addresses: usize) -> Row {
+fn read(addresses: usize) -> Requests {
     const PARAMETERS: [(u16, u16); 15] = [
         (10102, 1),
         (10103, 1),
@@ -126,15 +167,12 @@ fn read(addresses: usize) -> Row {
         let (pnu, elements) = PARAMETERS[i % PARAMETERS.len()];
         block.extend(address(pnu, (i / PARAMETERS.len()) as u16 % elements, 1));
     }
-    let name = format!("write and fetch, {addresses} read");
-    let calls = vec![write(1, &block), fetch(1)];
-    Row { name, start: vec![], calls, units: 1, addresses: Some(addresses), number: 0 }
+    Requests { what: format!("{addresses} read"), blocks: vec![block], addresses: Some(addresses) }
 }
 
 /// Two changes in turn, so that each stores other values than stand there.
-fn change(what: &str, block: fn(u8) -> Vec<u8>) -> Row {
-    let calls = [1, 2].into_iter().flat_map(|low| [write(1, &block(low)), fetch(1)]).collect();
-    Row { name: format!("write and fetch, {what}"), start: vec![], calls, units: 2, addresses: None, number: 0 }
+fn change(what: &str, block: fn(u8) -> Vec<u8>) -> Requests {
+    Requests { what: what.into(), blocks: [1, 2].map(block).into(), addresses: None }
 }
 
 /// One level mark.
@@ -167,5 +205,6 @@ fn all_elements(low: u8) -> Vec<u8> {
 fn denied() -> Row {
     let block = [0x07, 0x02, 0x01, 0x01, 0x10, 0x02, 0x75, 0x31, 0x00, 0x00, 0x42, 0x02, 0x03, 0xE8, 0x0B, 0xB9];
     let name = "frame denied (another farm's axis)".into();
-    Row { name, start: vec![], calls: vec![write(2, &block)], units: 1, addresses: None, number: 11 }
+    let calls = vec![Call::Frame { farm: 2, frame: write(&block) }];
+    Row { name, start: vec![], calls, units: 1, addresses: None, number: 11 }
 }

@@ -7,12 +7,13 @@ use twin::{Cycled, Framed, Station};
 pub trait Side {
     /// Its own answer of a cycle; turned into the twin's only where answers are compared.
     type Cycled: Into<Cycled>;
-    /// Its own answer of a frame.
+    /// Its own answer of a frame or a merged call.
     type Framed: Into<Framed>;
 
     fn fresh() -> Self;
     fn cycle(&mut self, cycle: &Cycle) -> Self::Cycled;
     fn frame(&mut self, farm: u32, frame: &[u8], reply: &mut [u8]) -> Self::Framed;
+    fn exchange(&mut self, farm: u32, frame: &[u8], reply: &mut [u8]) -> Self::Framed;
 }
 
 pub struct Twin(Station);
@@ -31,6 +32,10 @@ impl Side for Twin {
 
     fn frame(&mut self, farm: u32, frame: &[u8], reply: &mut [u8]) -> Framed {
         self.0.frame(farm, frame, reply)
+    }
+
+    fn exchange(&mut self, farm: u32, frame: &[u8], reply: &mut [u8]) -> Framed {
+        self.0.exchange(farm, frame, reply)
     }
 }
 
@@ -63,9 +68,9 @@ impl From<CFramed> for Framed {
     }
 }
 
-/// A side with the face of `include/llinkhiro.h`, whose four functions have these names.
+/// A side with the face of `include/llinkhiro.h`, whose functions have these names. Those that take a frame have one face.
 macro_rules! c_side {
-    ($side:ident, $size:ident, $fresh:ident, $cycle:ident, $frame:ident) => {
+    ($side:ident, $size:ident, $fresh:ident, $cycle:ident, $($framed:ident: $name:ident),*) => {
         extern "C" {
             fn $size() -> usize;
             fn $fresh(station: *mut u8, len: usize) -> u8;
@@ -79,7 +84,7 @@ macro_rules! c_side {
                 nist: i16,
                 fault: u16,
             ) -> CCycled;
-            fn $frame(
+            $(fn $name(
                 station: *mut u8,
                 len: usize,
                 farm: u32,
@@ -87,12 +92,12 @@ macro_rules! c_side {
                 frame_len: usize,
                 reply: *mut u8,
                 reply_len: usize,
-            ) -> CFramed;
+            ) -> CFramed;)*
         }
 
         pub struct $side(Vec<u8>);
 
-        // SAFETY, of the four calls: each pointer comes from a slice that lives through the call and has the length beside it.
+        // SAFETY, of all calls: each pointer comes from a slice that lives through the call and has the length beside it.
         impl Side for $side {
             type Cycled = CCycled;
             type Framed = CFramed;
@@ -108,13 +113,15 @@ macro_rules! c_side {
                 unsafe { $cycle(at, len, c.axis, c.flags, c.stw1, c.nsoll, c.nist, c.fault) }
             }
 
-            fn frame(&mut self, farm: u32, frame: &[u8], reply: &mut [u8]) -> CFramed {
+            $(fn $framed(&mut self, farm: u32, frame: &[u8], reply: &mut [u8]) -> CFramed {
                 let (at, len) = (self.0.as_mut_ptr(), self.0.len());
-                unsafe { $frame(at, len, farm, frame.as_ptr(), frame.len(), reply.as_mut_ptr(), reply.len()) }
-            }
+                unsafe { $name(at, len, farm, frame.as_ptr(), frame.len(), reply.as_mut_ptr(), reply.len()) }
+            })*
         }
     };
 }
 
-c_side!(Ours, llinkhiro_size, llinkhiro_fresh, llinkhiro_cycle, llinkhiro_frame);
-c_side!(Plain, plain_size, plain_fresh, plain_cycle, plain_frame);
+c_side!(
+    Ours, llinkhiro_size, llinkhiro_fresh, llinkhiro_cycle, frame: llinkhiro_frame, exchange: llinkhiro_exchange
+);
+c_side!(Plain, plain_size, plain_fresh, plain_cycle, frame: plain_frame, exchange: plain_exchange);

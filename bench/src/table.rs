@@ -6,23 +6,34 @@ pub const SIDES: [&str; 3] = ["ours", "twin", "C"];
 /// What each side costs, where that side has the row and it was measured.
 pub type Costs = [Option<f64>; SIDES.len()];
 
-pub const NONE: Costs = [None; SIDES.len()];
-
 pub fn head() {
     println!("{:36}|{:^46}|{:^46}", "", "ns", "x86-64 instructions");
     let columns = format!("{:>8} {:>8} {:>8} {:>10} {:>8}", "ours", "twin", "C", "ours/twin", "ours/C");
-    println!("{:36}|{columns}|{columns}", "");
+    print("", [columns.clone(), columns]);
 }
 
 pub fn line(name: &str, times: Costs, instructions: Costs) {
-    println!("{name:36}|{}|{}", columns(times), columns(instructions));
+    print(name, [times, instructions].map(|costs| columns(costs, ratios(costs))));
 }
 
-fn columns(costs: Costs) -> String {
-    let [ours, twin, plain] = costs;
-    let ratio = |other: Option<f64>| cell(ours.zip(other).map(|(ours, other)| ours / other), 2);
-    let [first, second, third] = costs.map(|cost| cell(cost, if cost < Some(100.0) { 1 } else { 0 }));
-    format!("{first:>8} {second:>8} {third:>8} {:>10} {:>8}", ratio(twin), ratio(plain))
+/// A line of savings. It has no ratios: more is better there, and a side may save nothing.
+pub fn saved(name: &str, times: Costs, instructions: Costs) {
+    print(name, [times, instructions].map(|costs| columns(costs, [None; 2])));
+}
+
+fn print(name: &str, [times, instructions]: [String; 2]) {
+    println!("{name:36}|{times}|{instructions}");
+}
+
+fn columns(costs: Costs, ratios: [Option<f64>; 2]) -> String {
+    let [ours, twin, plain] = costs.map(|cost| cell(cost, if cost < Some(100.0) { 1 } else { 0 }));
+    let [to_twin, to_plain] = ratios.map(|ratio| cell(ratio, 2));
+    format!("{ours:>8} {twin:>8} {plain:>8} {to_twin:>10} {to_plain:>8}")
+}
+
+/// What ours is to each of the others.
+fn ratios([ours, twin, plain]: Costs) -> [Option<f64>; 2] {
+    [twin, plain].map(|other| Some(ours? / other?))
 }
 
 fn cell(figure: Option<f64>, digits: usize) -> String {
@@ -43,6 +54,11 @@ fn least_squares(points: &[(f64, f64)]) -> Option<f64> {
     let up: f64 = points.iter().map(|p| (p.0 - x) * (p.1 - y)).sum();
     let across: f64 = points.iter().map(|p| (p.0 - x) * (p.0 - x)).sum();
     (across > 0.0).then_some(up / across)
+}
+
+/// What the second costs less than the first.
+pub fn less(first: Costs, second: Costs) -> Costs {
+    std::array::from_fn(|side| Some(first[side]? - second[side]?))
 }
 
 /// The lesser of each two figures.
