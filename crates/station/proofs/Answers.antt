@@ -60,11 +60,6 @@ pub lent : (k : ℕ) (s : List ℕ) → take ((k - 1) * partSize + partSize - (k
 unfolding window
 lent k s = rw (part-size k)
 
--- and as it comes back
-pub back : (k : ℕ) (s ys : List ℕ) → putMid ((k - 1) * partSize) ((k - 1) * partSize + partSize - (k - 1) * partSize) s ys ≡ withPart k ys s
-unfolding withWindow
-back k s ys = rw (part-size k)
-
 -- numbers below 5 have an empty reply
 pub quiet : (f : List ℕ) (n : ℕ) → n < 5 → refusedReply f n ≡ []
 quiet f n h = rw (lt-ltb n 5 h)

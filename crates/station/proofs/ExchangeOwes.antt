@@ -20,7 +20,7 @@ use Rattle.station.proofs.Answers.{quiet}
 use Rattle.station.proofs.Judged.{passes}
 use Rattle.station.proofs.Says.{later}
 use Rattle.station.proofs.FrameOwes.{writes, frame-owes}
-use Rattle.station.proofs.Passes.{fetch-follows}
+use Rattle.station.proofs.Passes.{fetch-next}
 
 -- what is left of a read is no read
 pub unread : (f : List ℕ) → isRead (noRead f) ≡ false
@@ -84,19 +84,19 @@ module _ (k : ℕ) (f m p : List ℕ) where
   fetch-done w =
       let room = passes k (noRead f) (length m) p (sym (ap early w)) .room in
       let long : length (frameReply k (noRead f) m p) ≡ length m = put-length m 0 _ in
-      fetch-follows k (noRead f) m p w (writes k (noRead f) (length m) p w (unread f) .0) (frameReply k (noRead f) m p) (omega arith)
+      fetch-next k (noRead f) m p w (writes k (noRead f) (length m) p w (unread f) .0) (frameReply k (noRead f) m p) (omega arith)
 
   -- and is answered, with what the write stored
-  pub in-turn : written ≡ 0 → exchangeDone k f m p ≡ both k (noRead f) m p
+  pub turns : written ≡ 0 → exchangeDone k f m p ≡ both k (noRead f) m p
   unfolding exchangeDone frameAnswer
-  in-turn w = rw (w, fetch-done w)
+  turns w = rw (w, fetch-done w)
 
   numbered : exchangeDone k f m p .told .number ≡ written
   unfolding frameAnswer
   numbered = go written refl
     where
       go : (n : ℕ) → written ≡ n → exchangeDone k f m p .told .number ≡ written
-      go zero w = ap (λ (d : FrameDone). d .told .number) (in-turn w) ∙ sym w
+      go zero w = ap (λ (d : FrameDone). d .told .number) (turns w) ∙ sym w
       go (suc n) w = ap (λ (d : FrameDone). d .told .number) (alone n w)
 
   pub refuses : (n : ℕ) → written ≡ suc n
@@ -123,19 +123,30 @@ module _ (k : ℕ) (f m p : List ℕ) where
       go zero w = absurd (some (writes k (noRead f) (length m) p w (unread f) .1))
       go (suc n) w = ap waiting (refuses n w .1)
 
+-- what is done was no read
+pub done-unread : (k : ℕ) (f : List ℕ) (m : ℕ) (p : List ℕ) → frameRefusal k (noRead f) m p ≡ 0 → isRead f ≡ false
+unfolding frameRefusal
+done-unread k f m p e = go (isRead f) refl
+  where
+    go : (b : Bool) → isRead f ≡ b → isRead f ≡ false
+    go false h = h
+    go true h =
+        let none : noRead f ≡ [] = rw h in
+        let passed : frameRefusal k [] m p ≡ 0 = ap (λ (l : List ℕ). frameRefusal k l m p) (sym none) ∙ e in
+        absurd
+        (one-of (λ (n : ℕ). n ≡ 0 → ⊥) (not (wellFormed k p)) 2 _ (λ x. omega arith)
+        (one-of (λ (n : ℕ). n ≡ 0 → ⊥) (ltb m 244) 3 4 (λ x. omega arith) (λ x. omega arith)) passed)
+
 -- of a frame that is no read
 module _ (k : ℕ) (f m p : List ℕ) (isnt : isRead f ≡ false) where
-  itself : noRead f ≡ f
+  pub itself : noRead f ≡ f
   itself = rw isnt
 
   number-is : frameRefusal k (noRead f) (length m) p ≡ frameRefusal k f (length m) p
   number-is = ap (λ (l : List ℕ). frameRefusal k l (length m) p) itself
 
-  pub refused-alone : (n : ℕ) → frameRefusal k f (length m) p ≡ suc n → exchangeDone k f m p ≡ frameDone k f m p
-  refused-alone n e = alone k f m p n (number-is ∙ e) ∙ ap (λ (l : List ℕ). frameDone k l m p) itself
-
   pub done-in-turn : frameRefusal k f (length m) p ≡ 0 → exchangeDone k f m p ≡ both k f m p
-  done-in-turn e = in-turn k f m p (number-is ∙ e) ∙ ap (λ (l : List ℕ). both k l m p) itself
+  done-in-turn e = turns k f m p (number-is ∙ e) ∙ ap (λ (l : List ℕ). both k l m p) itself
 
 pub exchange-owes : (k : ℕ) (f m : List ℕ) → Owes (kindOf (exchange k f m))
 exchange-owes k f m =

@@ -1,7 +1,8 @@
 -- What the code of a merged call has to show at each of its returns.
-use mathlib.Core.Path.{_≡_, refl, sym, ap, ap₂, subst, _∙_}
+use mathlib.Core.Path.{_≡_, refl, sym, ap, ap₂, _∙_}
+use mathlib.Core.Bool.{true, false}
 use mathlib.Core.List.{List, []}
-use Prim.Native.Nat.{ℕ, zero, suc, _+_, _-_, _*_, _≤_, _<_}
+use Prim.Native.Nat.{ℕ, _+_, _-_, _*_, _≤_}
 use native.Mathlib.Omega.{arith}
 use lib.ListN.{length, take}
 use lib.Seq.{take-all}
@@ -10,21 +11,22 @@ use Rattle.codes.specs.Number.{put}
 use Rattle.blocks.specs.Block.{blockLimit}
 use Rattle.part.specs.Layout.{partSize, waitingLength, withResponse}
 use Rattle.station.specs.declared.Framed.{Framed}
-use Rattle.station.specs.Parts.{partOf, withPart, stationRefusal}
-use Rattle.station.specs.Frame.{isRead, frameRefusal, frameAnswer, frameReply, framePart}
+use Rattle.station.specs.Parts.{partOf}
+use Rattle.station.specs.Frame.{isWrite, isRead, frameRefusal, frameAnswer, frameReply, framePart}
 use Rattle.station.specs.Inner.{early, fetched, framed}
-use Rattle.station.specs.Exchange.{FrameDone, fetchAll, noRead}
+use Rattle.station.specs.Exchange.{fetchAll, noRead}
 use Rattle.station.specs.Isolation.{answer, after}
-use Rattle.station.specs.Calls.{frame, exchange, Answer, toCycle, toFrame, refusedFrame, numberIn, kinds}
+use Rattle.station.specs.Calls.{frame, exchange, toFrame, numberIn, kinds}
 use Rattle.station.proofs.Tests.{by-test}
-use Rattle.station.proofs.Answers.{back, quiet, refusal-small}
+use Rattle.station.proofs.Answers.{does}
 use Rattle.station.proofs.Judged.{Passed, passes}
 use Rattle.station.proofs.Frames.{formed, fetched-frame}
-use Rattle.station.proofs.ExchangeOwes.{alone, fetch-done, in-turn}
-use Rattle.station.proofs.Windows.{length-window, with-again}
-use Rattle.station.proofs.Isolation.{Right, took-answer, took, gave-answer, gave, fits, fine, length-after, own}
-use Rattle.station.proofs.Owes.{owes, sized}
+use Rattle.station.proofs.FrameOwes.{writes}
+use Rattle.station.proofs.ExchangeOwes.{itself, done-unread, fetch-done}
+use Rattle.station.proofs.Isolation.{Right, took-answer, fine, length-after, own}
+use Rattle.station.proofs.Owes.{sized}
 use Rattle.station.proofs.Refusals.{was-done}
+use Rattle.station.proofs.Merged.{replyIn, refused-alike, in-turn}
 
 -- the bytes that are lent of a frame
 pub unread-bytes : (f : List ℕ) → (length (noRead f) ≤ length f) × (take (length (noRead f)) f ≡ noRead f)
@@ -32,76 +34,52 @@ unread-bytes f =
     by-test (λ (l : List ℕ). (length l ≤ length f) × (take (length l) f ≡ l)) (isRead f) [] f
     (λ e. (omega arith, refl)) (λ e. (omega arith, take-all (length f) f (omega arith)))
 
--- a frame's answer, and its reply memory
-abbrev pub toldIn : Answer → Framed
-toldIn (toCycle c) = record { length = 0; stored = 0; number = 0 }
-toldIn (toFrame a m) = a
-
-abbrev pub replyIn : Answer → List ℕ
-replyIn (toCycle c) = []
-replyIn (toFrame a m) = m
-
 -- what its write answered, and left of the station s
 module _ (k : ℕ) (f m s : List ℕ) (a : Framed) (r t : List ℕ)
     (told : toFrame a r ≡ answer kinds (frame k (noRead f) m) s) (left : t ≡ after kinds (frame k (noRead f) m) s) where
-  abbrev p : List ℕ
-  p = partOf k s
-
-  -- numbers 1 and 2 have an empty reply, to whatever frame
-  unanswered : (n : ℕ) → stationRefusal k (length s) ≡ suc n → refusedFrame (noRead f) m (suc n) ≡ refusedFrame f m (suc n)
-  unanswered n e =
-      let small : suc n < 5 = subst (λ (x : ℕ). x < 5) e (refusal-small k (length s)) in
-      ap (λ (l : List ℕ). toFrame (record { length = length l; stored = 0; number = suc n }) (put m 0 l)) (quiet (noRead f) (suc n) small ∙ sym (quiet f (suc n) small))
-
   pub stops : (a .number ≡ 0 → ⊥) → (toFrame a r ≡ answer kinds (exchange k f m) s) × (t ≡ after kinds (exchange k f m) s)
-  unfolding frameAnswer
-  stops z = go (stationRefusal k (length s)) refl (frameRefusal k (noRead f) (length m) p) refl
-    where
-      Stopped : Type 0
-      Stopped = (toFrame a r ≡ answer kinds (exchange k f m) s) × (t ≡ after kinds (exchange k f m) s)
+  stops z =
+      let alike = refused-alike k f m s (λ e. z (ap numberIn told ∙ e)) in
+      (told ∙ sym (alike .0), left ∙ sym (alike .1))
 
-      go : (x : ℕ) → stationRefusal k (length s) ≡ x → (n : ℕ) → frameRefusal k (noRead f) (length m) p ≡ n → Stopped
-      go (suc x) e n d = (
-        told ∙ (gave-answer kinds (frame k (noRead f) m) s x e ∙ (unanswered x e ∙ sym (gave-answer kinds (exchange k f m) s x e))),
-        left ∙ (gave kinds (frame k (noRead f) m) s x e ∙ sym (gave kinds (exchange k f m) s x e)),
-      )
-      go zero e zero d = absurd (z (ap numberIn (told ∙ took-answer kinds (frame k (noRead f) m) s e) ∙ d))
-      go zero e (suc n) d =
-          let same = sym (alone k f m p n d) in (
-            told ∙ (took-answer kinds (frame k (noRead f) m) s e
-                ∙ (ap (λ (x : FrameDone). toFrame (x .told) (x .reply)) same ∙ sym (took-answer kinds (exchange k f m) s e))),
-            left ∙ (took kinds (frame k (noRead f) m) s e
-                ∙ (ap (λ (x : FrameDone). withPart k (x .part) s) same ∙ sym (took kinds (exchange k f m) s e))),
-          )
-
-  -- the write is done: its response can be handed over, and then the call is
+  -- the write is done, so it is no read: its response can be handed over, and then the call is
   module _ (done : a .number ≡ 0) where
+    abbrev p : List ℕ
+    p = partOf k s
+
     was : Right k (length s) × (numberIn (toFrame (frameAnswer k (noRead f) m p) (frameReply k (noRead f) m p)) ≡ 0)
     was = was-done (frame k (noRead f) m) s (sym (ap numberIn told) ∙ done)
 
     pub home : Right k (length t)
     home = record { low = was .0 .low; high = was .0 .high; size = ap length left ∙ (length-after kinds sized (frame k (noRead f) m) s ∙ was .0 .size) }
 
-    written : frameRefusal k (noRead f) (length m) p ≡ 0
+    isnt : isRead f ≡ false
     unfolding frameAnswer
-    written = was .1
+    isnt = done-unread k f (length m) p (was .1)
 
-    wrote : toFrame a r ≡ toFrame (frameAnswer k (noRead f) m p) (frameReply k (noRead f) m p)
-    wrote = told ∙ took-answer kinds (frame k (noRead f) m) s (fine (was .0))
+    same : noRead f ≡ f
+    same = itself k f m p isnt
 
-    answered : a ≡ frameAnswer k (noRead f) m p
-    answered = ap toldIn wrote
+    wrote : toFrame a r ≡ answer kinds (frame k f m) s
+    wrote = told ∙ ap (λ (l : List ℕ). answer kinds (frame k l m) s) same
+
+    went : t ≡ after kinds (frame k f m) s
+    went = left ∙ ap (λ (l : List ℕ). after kinds (frame k l m) s) same
+
+    is : isWrite f ≡ true
+    unfolding frameAnswer
+    is = writes k f (length m) p (sym (ap (λ (l : List ℕ). frameRefusal k l (length m) p) same) ∙ was .1) isnt .0
 
     reply : r ≡ frameReply k (noRead f) m p
-    reply = ap replyIn wrote
+    reply = ap replyIn (told ∙ took-answer kinds (frame k (noRead f) m) s (fine (was .0)))
 
     part : partOf k t ≡ framePart k (noRead f) m p
     part = ap (partOf k) left ∙ own kinds sized (frame k (noRead f) m) s (was .0)
 
     passed : Passed k fetchAll (length r) (partOf k t)
-    unfolding early
+    unfolding early frameAnswer
     passed =
-        let sent : frameRefusal k fetchAll (length r) (partOf k t) ≡ 0 = rw (reply, part) (fetch-done k f m p written) in
+        let sent : frameRefusal k fetchAll (length r) (partOf k t) ≡ 0 = rw (reply, part) (fetch-done k f m p (was .1)) in
         passes k fetchAll (length r) (partOf k t) (sym (ap early sent))
 
     pub hands : (length (partOf k t) ≡ partSize) × ((waitingLength (partOf k t) ≤ blockLimit) × (4 + blockLimit ≤ length r))
@@ -112,15 +90,6 @@ module _ (k : ℕ) (f m s : List ℕ) (a : Framed) (r t : List ℕ)
         × (putMid ((k - 1) * partSize) ((k - 1) * partSize + partSize - (k - 1) * partSize) t u ≡ after kinds (exchange k f m) s)
     ends b v u x y z =
         let h = fetched-frame k fetchAll r (partOf k t) passed refl in
-        let d = sym (in-turn k f m p written) in
-        let long : length (framePart k (noRead f) m p) ≡ partSize =
-        owes (frame k (noRead f) m) .sized p (length-window ((k - 1) * partSize) partSize s (fits (was .0))) in (
-          ap₂ toFrame
-              (ap₂ (λ (v w : Framed). record { length = v .length; stored = w .stored; number = 0 }) (x ∙ (h .0 ∙ ap₂ (frameAnswer k fetchAll) reply part)) answered)
-              (y ∙ (h .1 .0 ∙ ap₂ (frameReply k fetchAll) reply part))
-              ∙ (ap (λ (w : FrameDone). toFrame (w .told) (w .reply)) d ∙ sym (took-answer kinds (exchange k f m) s (fine (was .0)))),
-          back k t u
-              ∙ (ap₂ (withPart k) (z ∙ (h .1 .1 ∙ ap₂ (framePart k fetchAll) reply part)) (left ∙ took kinds (frame k (noRead f) m) s (fine (was .0)))
-              ∙ (with-again ((k - 1) * partSize) partSize (framePart k (noRead f) m p) s (fits (was .0)) long _
-              ∙ (ap (λ (w : FrameDone). withPart k (w .part) s) d ∙ sym (took kinds (exchange k f m) s (fine (was .0)))))),
-        )
+        let fetch = does kinds (frame k fetchAll r) t (toFrame b v) u (sym (fine home)) (ap₂ toFrame (x ∙ h .0) (y ∙ h .1 .0)) (z ∙ h .1 .1) in
+        let turn = in-turn k f m s a b r v is (sym wrote) done (ap (answer kinds (frame k fetchAll r)) (sym went) ∙ sym (fetch .0)) in
+        (sym (turn .0), fetch .1 ∙ (ap (after kinds (frame k fetchAll r)) went ∙ sym (turn .1)))

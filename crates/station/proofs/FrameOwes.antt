@@ -1,9 +1,10 @@
 -- What a frame owes.
-use mathlib.Core.Path.{_≡_, refl, sym, ap, _∙_}
+use mathlib.Core.Path.{_≡_, refl, sym, ap, ap₂, _∙_}
 use mathlib.Core.Bool.{Bool, true, false, not, _&&_, _||_, true≢false}
 use mathlib.Core.List.{List}
 use Prim.Native.Nat.{ℕ, zero, suc}
-use lib.Dec.{eqb, eqb·suc-zero}
+use native.Mathlib.Omega.{arith}
+use lib.Dec.{eqb}
 use lib.ListN.{length}
 use borrow.Author.Tests.{eqb-true}
 use Rattle.part.specs.Layout.{partSize, waitingLength, waiting}
@@ -18,6 +19,7 @@ use Rattle.station.specs.Owed.{Owes}
 use Rattle.station.proofs.Tests.{one-of}
 use Rattle.station.proofs.Judged.{passes}
 use Rattle.station.proofs.Says.{later}
+use Rattle.station.proofs.Frames.{refused-frame}
 
 -- a frame that is done and is no read is a write, in its turn: nothing waits
 turned : (write reads none : Bool) → reads ≡ false → write || reads ≡ true → (write && not none || reads && none) ≡ false → (write ≡ true) × (none ≡ true)
@@ -35,8 +37,9 @@ writes k f m p e isnt =
 module _ (k : ℕ) (f m : List ℕ) where
   refuses : (p : List ℕ) (n : ℕ) → frameRefusal k f (length m) p ≡ suc n
       → (toFrame (frameAnswer k f m p) (frameReply k f m p) ≡ refusedFrame f m (suc n)) × (framePart k f m p ≡ p)
-  unfolding frameAnswer frameReply framePart
-  refuses p n e = rw (e, eqb·suc-zero n) (refl, refl)
+  refuses p n e =
+      let r = refused-frame k f m p (suc n) e (λ z. omega arith) in
+      (ap₂ toFrame (sym (r .0)) (sym (r .1 .0)), sym (r .1 .1))
 
   waits : (p : List ℕ) → isRead f ≡ false → (waitingLength p ≡ 0 → ⊥) → waiting (framePart k f m p) ≡ waiting p
   waits p isnt some = go (frameRefusal k f (length m) p) refl

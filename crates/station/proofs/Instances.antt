@@ -1,7 +1,7 @@
 -- Each law of specs/Laws.antt at work on calls that are written out, at both ends of its bounds: a law that is made weaker fails here.
 -- What a law concludes is written out too, and of each record that a law asks for one is built.
 use mathlib.Core.Path.{_≡_, refl, ap, _∙_}
-use mathlib.Core.Bool.{true, false}
+use mathlib.Core.Bool.{Bool, true, false}
 use mathlib.Core.List.{List, [], _∷_, _++_, map}
 use Prim.Native.Nat.{ℕ, _≤_}
 use native.Mathlib.Omega.{arith}
@@ -16,7 +16,7 @@ use Rattle.blocks.specs.Request.{Request, address, requestBlocks, request}
 use Rattle.blocks.specs.Response.{response}
 use Rattle.blocks.specs.Page.{RequestFits, requestBytes, ResponseFits, responseBytes}
 use Rattle.drive.specs.Cycle.{cycleOf}
-use Rattle.catalogue.specs.Table.{rows, parameterBytes}
+use Rattle.catalogue.specs.Table.{rows, parameterBytes, offsetOf}
 use Rattle.catalogue.specs.Element.{putElement}
 use Rattle.part.specs.Layout.{partSize, waitingLength, waiting, withResponse}
 use Rattle.part.specs.Fresh.{freshPart}
@@ -30,9 +30,9 @@ use Rattle.station.specs.Frame.{frameRefusal, frameReply}
 use Rattle.station.specs.Cycle.{Sent, SentFits, inputOf, cycleRefusal, cycleAnswer}
 use Rattle.station.specs.Runs.{callsBy, answersTo, SameSeen, runAnswers, runEnd}
 use Rattle.station.specs.Isolation.{Isolated, answer, after, machine}
-use Rattle.station.specs.Calls.{Call, cycle, frame, exchange, toFrame, numberIn, owner, kinds}
+use Rattle.station.specs.Calls.{Call, cycle, frame, exchange, frameBy, toFrame, numberIn, owner, kinds}
 use Rattle.station.specs.Worked.{marksFrame, fetchFrame, workedCalls, mergedCalls, endedPart}
-use Rattle.station.specs.Laws.{Refuses, WellFormedStation, AtRest, replied, Exchanged}
+use Rattle.station.specs.Laws.{Refuses, WellFormedStation, AtRest, replied, Responded}
 use Rattle.station.proofs.Owes.{isolated-station, keeps-size, keeps-others}
 use Rattle.station.proofs.Cycles.{tells-what-it-did}
 use Rattle.station.proofs.Outcome.{block-numbered}
@@ -40,8 +40,8 @@ use Rattle.station.proofs.Refusals.{numbered-by-table, is-refused, empt
 use Rattle.station.proofs.Stays.{fresh-parts, never-ill-formed}
 use Rattle.station.proofs.Sends.{waits-as-ruled, sends-waiting}
 use Rattle.station.proofs.Worked.{worked-by-hand, merged-by-hand}
-use Rattle.station.proofs.Responds.{responds-as-ruled, fetch-after-write}
-use Rattle.station.proofs.Merged.{in-turn, write-alone, merges-as-ruled}
+use Rattle.station.proofs.Responds.{responds-as-ruled, fetch-follows}
+use Rattle.station.proofs.Merged.{in-turn, write-alone, read-as-none, merges-as-ruled}
 use Rattle.station.proofs.Past.{past-stays}
 
 -- the numbers at both ends of a cycle's words
@@ -133,8 +133,10 @@ module _ (s : List ℕ) (size : length s ≡ stationSize) where
   by-hand = let w = worked-by-hand s size in (refl, w .answered, w .size, w .first, w .others 2 (lit≤ tt) (lit≤ tt), w .others 16 (lit≤ tt) (lit≤ tt))
 
   -- MergedByHand: four merged calls
-  merged-by-hand-too : (length mergedCalls ≡ 4) × (runAnswers (machine kinds) (map (λ w. w .call) mergedCalls) (freshStation s) ≡ map (λ w. w .answer) mergedCalls)
-  merged-by-hand-too = (refl, merged-by-hand s size .0)
+  merged-by-hand-too :
+      (length mergedCalls ≡ 4) × (runAnswers (machine kinds) (map (λ w. w .call) mergedCalls) (freshStation s) ≡ map (λ w. w .answer) mergedCalls)
+      × (partOf 1 (runEnd (machine kinds) (map (λ w. w .call) mergedCalls) (freshStation s)) ≡ put freshPart (offsetOf 30001) (0x03 ∷ 0xE8 ∷ []))
+  merged-by-hand-too = let w = merged-by-hand s size in (refl, w .0, w .1)
 
 -- Refused and NumberedByTable: an axis that there is not
 nobody : (i : Sent) (s : List ℕ) → Refuses (cycle 17 i) s
@@ -216,15 +218,15 @@ sent k m p e = sends-waiting k fetchFrame m p e refl
 
 -- RespondsAsRuled: farm 1 and farm 16, with as many bytes as wait and with the most, nothing between and a call of each kind
 module _ (r : Request) (fits : RequestFits r) (short : length (requestBytes r) ≤ 240) (s m w : List ℕ) (room : 244 ≤ length m) (wide : 244 ≤ length w) where
-  least : AtRest 1 s → r .axis ≡ 1 → Exchanged 1 r s m [] (length (responseBytes (worked r (partOf 1 s) .response))) w
+  least : AtRest 1 s → r .axis ≡ 1 → Responded 1 r s m [] (length (responseBytes (worked r (partOf 1 s) .response))) w
   least rest mine = responds-as-ruled 1 r s m [] _ w rest fits short mine room tt (omega arith) (answer-short r (partOf 1 s) fits) wide
 
   -- Between: a cycle, a write and a merged call of the farm's own, and a read of another's
   most : (f g h : List ℕ) → AtRest 16 s → r .axis ≡ 16
-      → Exchanged 16 r s m (cycle 16 largest ∷ frame 16 marksFrame g ∷ exchange 16 f h ∷ frame 15 fetchFrame g ∷ []) 240 w
+      → Responded 16 r s m (cycle 16 largest ∷ frame 16 marksFrame g ∷ exchange 16 f h ∷ frame 15 fetchFrame g ∷ []) 240 w
   most f g h rest mine =
       responds-as-ruled 16 r s m (cycle 16 largest ∷ frame 16 marksFrame g ∷ exchange 16 f h ∷ frame 15 fetchFrame g ∷ []) 240 w rest fits short mine room
-      (record { fits = fit; stays = λ e. refl }, (record { fits = tt; stays = λ e. refl }, (record { fits = tt; stays = λ e. refl }, (record { fits = tt; stays = λ e. absurd (omega arith) }, tt))))
+      (record { fits = λ e. fit; stays = λ e. refl }, (record { fits = λ e. tt; stays = λ e. refl }, (record { fits = λ e. tt; stays = λ e. refl }, (record { fits = λ e. tt; stays = λ e. absurd (omega arith) }, tt))))
       (answer-short r (partOf 16 s) fits) (lit≤ tt) wide
 
   -- MergesAsRuled: what a merged call answers, and that nothing waits then
@@ -255,12 +257,12 @@ module _ (r : Request) (fits : RequestFits r) (short : length (requestBytes r) �
         let x = responds-as-ruled 1 r s m [] 240 w rest fits short mine room tt (answer-short r (partOf 1 s) fits) (lit≤ tt) wide in
         (x .acknowledged, x .answered, x .idle, x .fits, x .short)
 
--- FetchFollows, InTurn, WriteAlone and PastStays: the worked write, on any station and with any reply memory
+-- FetchFollows, InTurn, WriteAlone, PastStays and ReadAsNone: the worked write, on any station and with any reply memory
 module _ (m s : List ℕ) where
   fetch-done : (w : List ℕ) → 244 ≤ length w → numberIn (answer kinds (frame 1 marksFrame m) s) ≡ 0
       → numberIn (answer kinds (frame 1 fetchFrame w) (after kinds (exchange 1 marksFrame w) (after kinds (frame 1 marksFrame m) s))) ≡ 0
   unfolding runEnd
-  fetch-done w wide done = fetch-after-write 1 marksFrame m s (exchange 1 marksFrame w ∷ []) w refl done (record { fits = tt; stays = λ e. refl }, tt) wide
+  fetch-done w wide done = fetch-follows 1 marksFrame m s (exchange 1 marksFrame w ∷ []) w refl done (record { fits = λ e. tt; stays = λ e. refl }, tt) wide
 
   two-calls : (write fetch : Framed) (m′ m″ : List ℕ) → answer kinds (frame 1 marksFrame m) s ≡ toFrame write m′ → write .number ≡ 0
       → answer kinds (frame 1 fetchFrame m′) (after kinds (frame 1 marksFrame m) s) ≡ toFrame fetch m″
@@ -272,8 +274,14 @@ module _ (m s : List ℕ) where
       → (answer kinds (exchange 2 marksFrame m) s ≡ answer kinds (frame 2 marksFrame m) s) × (after kinds (exchange 2 marksFrame m) s ≡ after kinds (frame 2 marksFrame m) s)
   one-call refused = write-alone 2 marksFrame m s refl refused
 
-  beyond : (a : Framed) (w : List ℕ) → answer kinds (exchange 1 marksFrame m) s ≡ toFrame a w → (a .length ≤ 244) × (length w ≡ length m) × (drop (a .length) w ≡ drop (a .length) m)
-  beyond a w e = past-stays true 1 marksFrame m s a w e
+  beyond : (merged : Bool) (a : Framed) (w : List ℕ) → answer kinds (frameBy merged 1 marksFrame m) s ≡ toFrame a w
+      → (a .length ≤ 244) × (length w ≡ length m) × (drop (a .length) w ≡ drop (a .length) m)
+  beyond merged a w e = past-stays merged 1 marksFrame m s a w e
+
+  -- ReadAsNone: a read of another slot with a byte behind it, of the last farm
+  read-as-no-frame :
+      (answer kinds (exchange 16 (0x5E ∷ 1 ∷ 0x2F ∷ 0 ∷ 0 ∷ []) m) s ≡ answer kinds (frame 16 [] m) s) × (after kinds (exchange 16 (0x5E ∷ 1 ∷ 0x2F ∷ 0 ∷ 0 ∷ []) m) s ≡ s)
+  read-as-no-frame = read-as-none 16 (0x5E ∷ 1 ∷ 0x2F ∷ 0 ∷ 0 ∷ []) m s refl
 
 -- TellsWhatItDid: both, of the last axis
 module _ (i : Sent) (p : List ℕ) (fine : cycleRefusal 16 i p ≡ 0) where

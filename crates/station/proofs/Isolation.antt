@@ -71,10 +71,10 @@ module _ (K : Kinds) where
   gave c s n e = rw e
 
 module _ (K : Kinds) (sized : Sized K) (c : K .Call) (s : List ℕ) where
-  abbrev new : List ℕ
+  abbrev pub new : List ℕ
   new = K .leaves c (partOf (K .owner c) s)
 
-  new-length : Right (K .owner c) (length s) → length new ≡ partSize
+  pub new-length : Right (K .owner c) (length s) → length new ≡ partSize
   unfolding Sized
   new-length r = sized c (partOf (K .owner c) s) (length-window (start (K .owner c)) partSize s (fits r))
 

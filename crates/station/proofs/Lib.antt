@@ -16,10 +16,10 @@ pub mod Runs
 pub mod Isolation
 pub mod Owes
 pub mod Refusals
-pub mod Exchanges
 pub mod Stays
 pub mod Worked
 pub mod Responds
 pub mod Merged
+pub mod Exchanges
 pub mod Past
 pub mod Instances

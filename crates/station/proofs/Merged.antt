@@ -1,10 +1,10 @@
--- A merged call is its write and the fetch in turn, or the write alone.
+-- A merged call is its write and the fetch in turn, or the write alone, or for a read no frame at all.
 use mathlib.Core.Path.{_≡_, refl, sym, ap, subst, _∙_}
 use mathlib.Core.Bool.{true, false}
 use mathlib.Core.List.{List, [], _∷_, _++_}
-use Prim.Native.Nat.{ℕ, zero, suc, _+_, _-_, _*_, _≤_}
+use Prim.Native.Nat.{ℕ, zero, suc, _+_, _-_, _*_, _≤_, _<_}
 use native.Mathlib.Omega.{arith}
-use lib.Dec.{eqb, lit≤}
+use lib.Dec.{eqb, ltb, lit≤}
 use lib.ListN.{length, drop, length-append, length-drop}
 use lib.Seq.{drop-append-add, drop-drop}
 use borrow.Author.Tests.{eqb-true}
@@ -21,20 +21,30 @@ use Rattle.access.proofs.Keeps.{only-asked-changes}
 use Rattle.station.specs.declared.Framed.{Framed}
 use Rattle.station.specs.Parts.{partOf, withPart, stationRefusal}
 use Rattle.station.specs.Frame.{function, isWrite, isRead, frameRefusal, frameAnswer, frameReply, framePart}
-use Rattle.station.specs.Exchange.{FrameDone, fetchAll}
+use Rattle.station.specs.Exchange.{FrameDone, fetchAll, noRead}
 use Rattle.station.specs.Runs.{runEnd}
 use Rattle.station.specs.Isolation.{answer, after}
-use Rattle.station.specs.Calls.{frame, exchange, Answer, toFrame, numberIn, kinds}
-use Rattle.station.specs.Laws.{writeOf, InTurn, WriteAlone, MergesAsRuled}
+use Rattle.station.specs.Calls.{frame, exchange, Answer, toCycle, toFrame, refusedFrame, numberIn, kinds}
+use Rattle.station.specs.Laws.{writeOf, InTurn, WriteAlone, ReadAsNone, MergesAsRuled}
+use Rattle.station.proofs.Tests.{one-of}
+use Rattle.station.proofs.Answers.{empty-refused, refusal-small}
 use Rattle.station.proofs.Windows.{length-window, with-again}
-use Rattle.station.proofs.Isolation.{Right, took-answer, took, gave-answer, gave, fits, fine, length-after, own}
+use Rattle.station.proofs.Isolation.{Right, took-answer, took, gave-answer, gave, fits, fine, new-length, length-after, own}
 use Rattle.station.proofs.Sends.{taken-is}
-use Rattle.station.proofs.Passes.{left-is}
-use Rattle.station.proofs.ExchangeOwes.{refused-alone, done-in-turn}
-use Rattle.station.proofs.Owes.{owes, sized}
-use Rattle.station.proofs.Refusals.{was-done}
-use Rattle.station.proofs.Exchanges.{toldIn, replyIn}
+use Rattle.station.proofs.Passes.{fetched-part, left-is}
+use Rattle.station.proofs.ExchangeOwes.{alone, done-in-turn}
+use Rattle.station.proofs.Owes.{sized}
+use Rattle.station.proofs.Refusals.{is-refused, was-done, done-tests}
 use Rattle.station.proofs.Responds.{reads, reads-back, responds-as-ruled}
+
+-- a frame's answer, and its reply memory
+abbrev toldIn : Answer → Framed
+toldIn (toCycle c) = record { length = 0; stored = 0; number = 0 }
+toldIn (toFrame a m) = a
+
+abbrev pub replyIn : Answer → List ℕ
+replyIn (toCycle c) = []
+replyIn (toFrame a m) = m
 
 no-read : (f : List ℕ) → isWrite f ≡ true → isRead f ≡ false
 no-read f is = ap (λ (n : ℕ). eqb n 0x5E) (eqb-true (function f) 0x5F is)
@@ -55,7 +65,7 @@ in-turn k f m s write fetch m′ m″ is first z second =
     let sent = sym second ∙ took-answer kinds (frame k fetchAll m′) t (fine there) in
     let merged = done-in-turn k f m p (no-read f is) (d .1) in
     let last : List ℕ = framePart k fetchAll m′ (partOf k t) in
-    let long : length (framePart k f m p) ≡ partSize = owes (frame k f m) .sized p (length-window ((k - 1) * partSize) partSize s (fits (d .0))) in (
+    let long : length (framePart k f m p) ≡ partSize = new-length kinds sized (frame k f m) s (d .0) in (
       took-answer kinds (exchange k f m) s (fine (d .0))
           ∙ (ap (λ (x : FrameDone). toFrame (x .told) (x .reply)) merged
           ∙ (ap (λ (a : Framed). joined a (frameAnswer k fetchAll (frameReply k f m p) (framePart k f m p)) (frameReply k fetchAll (frameReply k f m p) (framePart k f m p))) (sym (ap toldIn wrote))
@@ -70,23 +80,51 @@ in-turn k f m s write fetch m′ m″ is first z second =
           ∙ (ap (withPart k last) (sym (took kinds (frame k f m) s (fine (d .0)))) ∙ sym (took kinds (frame k fetchAll m′) t (fine there))))))),
     )
 
-pub write-alone : WriteAlone
+-- a merged call whose write is refused, a read taken as none
+pub refused-alike :
+    (k : ℕ) (f m s : List ℕ) → (numberIn (answer kinds (frame k (noRead f) m) s) ≡ 0 → ⊥)
+    → (answer kinds (exchange k f m) s ≡ answer kinds (frame k (noRead f) m) s) × (after kinds (exchange k f m) s ≡ after kinds (frame k (noRead f) m) s)
 unfolding frameAnswer
-write-alone k f m s isnt refused = go (stationRefusal k (length s)) refl (frameRefusal k f (length m) (partOf k s)) refl
+refused-alike k f m s refused = go (stationRefusal k (length s)) refl (frameRefusal k (noRead f) (length m) (partOf k s)) refl
   where
     Same : Type 0
-    Same = (answer kinds (exchange k f m) s ≡ answer kinds (frame k f m) s) × (after kinds (exchange k f m) s ≡ after kinds (frame k f m) s)
+    Same = (answer kinds (exchange k f m) s ≡ answer kinds (frame k (noRead f) m) s) × (after kinds (exchange k f m) s ≡ after kinds (frame k (noRead f) m) s)
 
-    go : (r : ℕ) → stationRefusal k (length s) ≡ r → (n : ℕ) → frameRefusal k f (length m) (partOf k s) ≡ n → Same
-    go (suc r) e n d =
-        (gave-answer kinds (exchange k f m) s r e ∙ sym (gave-answer kinds (frame k f m) s r e), gave kinds (exchange k f m) s r e ∙ sym (gave kinds (frame k f m) s r e))
-    go zero e zero d = absurd (refused (ap numberIn (took-answer kinds (frame k f m) s e) ∙ d))
+    -- numbers 1 and 2 have an empty reply, to whatever frame
+    unanswered : (n : ℕ) → stationRefusal k (length s) ≡ n → refusedFrame f m n ≡ refusedFrame (noRead f) m n
+    unanswered n e =
+        let small : n < 5 = subst (λ (x : ℕ). x < 5) e (refusal-small k (length s)) in
+        sym (empty-refused f m n small) ∙ empty-refused (noRead f) m n small
+
+    go : (r : ℕ) → stationRefusal k (length s) ≡ r → (n : ℕ) → frameRefusal k (noRead f) (length m) (partOf k s) ≡ n → Same
+    go (suc r) e n d = (
+      gave-answer kinds (exchange k f m) s r e ∙ (unanswered (suc r) e ∙ sym (gave-answer kinds (frame k (noRead f) m) s r e)),
+      gave kinds (exchange k f m) s r e ∙ sym (gave kinds (frame k (noRead f) m) s r e),
+    )
+    go zero e zero d = absurd (refused (ap numberIn (took-answer kinds (frame k (noRead f) m) s e) ∙ d))
     go zero e (suc n) d =
-        let same = refused-alone k f m (partOf k s) isnt n d in (
+        let same = alone k f m (partOf k s) n d in (
           took-answer kinds (exchange k f m) s e
-              ∙ (ap (λ (x : FrameDone). toFrame (x .told) (x .reply)) same ∙ sym (took-answer kinds (frame k f m) s e)),
-          took kinds (exchange k f m) s e ∙ (ap (λ (x : FrameDone). withPart k (x .part) s) same ∙ sym (took kinds (frame k f m) s e)),
+              ∙ (ap (λ (x : FrameDone). toFrame (x .told) (x .reply)) same ∙ sym (took-answer kinds (frame k (noRead f) m) s e)),
+          took kinds (exchange k f m) s e ∙ (ap (λ (x : FrameDone). withPart k (x .part) s) same ∙ sym (took kinds (frame k (noRead f) m) s e)),
         )
+
+pub write-alone : WriteAlone
+write-alone k f m s isnt refused =
+    let same : noRead f ≡ f = rw isnt in
+    subst (λ (l : List ℕ). (answer kinds (exchange k f m) s ≡ answer kinds (frame k l m) s) × (after kinds (exchange k f m) s ≡ after kinds (frame k l m) s)) same
+    (refused-alike k f m s (λ z. refused (ap (λ (l : List ℕ). numberIn (answer kinds (frame k l m) s)) (sym same) ∙ z)))
+
+-- a frame of no bytes is never done
+nothing : (k : ℕ) (m s : List ℕ) → numberIn (answer kinds (frame k [] m) s) ≡ 0 → ⊥
+nothing k m s z = one-of (λ (n : ℕ). n ≡ 0 → ⊥) (ltb (length m) 244) 3 4 (λ e. omega arith) (λ e. omega arith) (done-tests (frame k [] m) s z)
+
+pub read-as-none : ReadAsNone
+read-as-none k f m s is =
+    let none : noRead f ≡ [] = rw is in
+    let same = subst (λ (l : List ℕ). (answer kinds (exchange k f m) s ≡ answer kinds (frame k l m) s) × (after kinds (exchange k f m) s ≡ after kinds (frame k l m) s)) none
+    (refused-alike k f m s (λ z. nothing k m s (ap (λ (l : List ℕ). numberIn (answer kinds (frame k l m) s)) (sym none) ∙ z))) in
+    (same .0, same .1 ∙ is-refused (frame k [] m) s (nothing k m s) .kept)
 
 -- the acknowledgement is overwritten by what is fetched
 over : (reply more m : List ℕ) → length reply ≡ 4 → drop (4 + length more) (reply ++ drop 4 m) ≡ drop (4 + length more) m
@@ -101,11 +139,6 @@ wrote-part :
     → framePart k (writeOf r) m p ≡ withResponse (response .write (worked r p .response)) (worked r p .part)
 wrote-part k r m p fit short mine e =
     left-is k (writeOf r) m p e refl ∙ ap (λ (o : Outcome). o .part) (taken-is k (requestBytes r) p r (reads r fit short) (reads-back r fit short) mine)
-
--- and the fetch of that
-fetched-part : (k : ℕ) (m q : List ℕ) → frameRefusal k fetchAll (length m) q ≡ 0 → framePart k fetchAll m q ≡ withResponse [] q
-unfolding framePart
-fetched-part k m q e = rw e refl
 
 pub merges-as-ruled : MergesAsRuled
 unfolding runEnd frameAnswer
@@ -133,7 +166,7 @@ merges-as-ruled k r s m rest fit short mine room =
       left =
           ap (partOf k) (one .1)
           ∙ (own kinds sized (frame k fetchAll after-write) t (sent .0)
-          ∙ (fetched-part k after-write (partOf k t) (sent .1)
+          ∙ (fetched-part k fetchAll after-write (partOf k t) (sent .1) refl
           ∙ (ap (withResponse []) written ∙ response-again (response .write (worked r p .response)) [] (worked r p .part) size fitting (omega arith))));
       idle = ap (λ (l : List ℕ). waitingLength (partOf k l)) (one .1) ∙ two .idle;
     }

@@ -18,7 +18,7 @@ use Rattle.blocks.specs.Response.{response}
 use Rattle.blocks.specs.Place.{headerOf}
 use Rattle.blocks.proofs.Sound.{request-sound}
 use Rattle.blocks.proofs.Request.{request-header}
-use Rattle.part.specs.Layout.{responseAt, responseRoom, waitingLength, waiting}
+use Rattle.part.specs.Layout.{responseAt, responseRoom, waitingLength, waiting, withResponse}
 use Rattle.part.specs.WellFormed.{wellFormed}
 use Rattle.access.specs.Work.{outcomeOf}
 use Rattle.station.specs.Frame.{isWrite, blockOf, fetchOf, frameTests, frameRefusal, framePart}
@@ -50,6 +50,11 @@ module _ (k : ℕ) (m p : List ℕ) (w : wellFormed k p ≡ true) (room : 244 �
   unfolding frameRefusal
   fetch-passes n some enough short = rw (w, le-ltb (length m) 244 room, le-leb n blockLimit short, ne-eqb (waitingLength p) 0 some, le-ltb n (waitingLength p) enough)
 
+-- a fetch that is done leaves no response
+pub fetched-part : (k : ℕ) (f m p : List ℕ) → frameRefusal k f (length m) p ≡ 0 → isWrite f ≡ false → framePart k f m p ≡ withResponse [] p
+unfolding framePart
+fetched-part k f m p e isnt = rw (e, isnt) refl
+
 -- a write that is done, on the part p, with the reply memory m
 module _ (k : ℕ) (f m p : List ℕ) (e : frameRefusal k f (length m) p ≡ 0) (is : isWrite f ≡ true) where
   was-formed : wellFormed k p ≡ true
@@ -77,6 +82,6 @@ module _ (k : ℕ) (f m p : List ℕ) (e : frameRefusal k f (length m) p ≡ 0) 
       let empty : waiting (framePart k f m p) ≡ [] = ap (λ (n : ℕ). take n (responseRoom (framePart k f m p))) none in
       true≢false (sym good ∙ (ap (λ (l : List ℕ). readable blockLimit response (waiting l)) (sym left-is) ∙ ap (readable blockLimit response) empty))
 
-  pub fetch-follows : (w : List ℕ) → 244 ≤ length w → frameRefusal k fetchAll (length w) (framePart k f m p) ≡ 0
-  fetch-follows w room =
+  pub fetch-next : (w : List ℕ) → 244 ≤ length w → frameRefusal k fetchAll (length w) (framePart k f m p) ≡ 0
+  fetch-next w room =
       fetch-passes k w (framePart k f m p) left-formed room 0xF0 something-waits (formed k (framePart k f m p) left-formed .1) (lit≤ tt)

@@ -15,7 +15,7 @@ use Rattle.station.specs.Calls.{Call, exchange, frameBy, Answer, toCycle
 use Rattle.station.specs.Laws.{PastStays}
 use Rattle.station.proofs.Isolation.{took-answer, gave-answer}
 use Rattle.station.proofs.FrameOwes.{writes}
-use Rattle.station.proofs.ExchangeOwes.{unread, both, refuses, fetch-done, in-turn}
+use Rattle.station.proofs.ExchangeOwes.{unread, both, refuses, fetch-done, turns}
 use Rattle.station.proofs.Refusals.{refused-by, refused-bound, reply-bound}
 
 -- past a reply of its length, a reply memory is as m was
@@ -47,7 +47,7 @@ past-merged k f m p = go (frameRefusal k (noRead f) (length m) p) refl
     go : (n : ℕ) → frameRefusal k (noRead f) (length m) p ≡ n → Past m (kindOf (exchange k f m) .answers p)
     go zero e =
         let is = writes k (noRead f) (length m) p e (unread f) .0 in
-        subst (λ (x : FrameDone). Past m (toFrame (x .told) (x .reply))) (sym (in-turn k f m p e)) (past-both k (noRead f) m p is e (fetch-done k f m p e))
+        subst (λ (x : FrameDone). Past m (toFrame (x .told) (x .reply))) (sym (turns k f m p e)) (past-both k (noRead f) m p is e (fetch-done k f m p e))
     go (suc n) e = subst (Past m) (sym (refuses k f m p n e .0)) (past-put m (refusedReply f (suc n)) (refused-bound f (suc n)))
 
 past-answers : (merged : Bool) (k : ℕ) (f m p : List ℕ) → Past m (kindOf (frameBy merged k f m) .answers p)

@@ -7,7 +7,6 @@ use native.Mathlib.Omega.{arith}
 use native.Mathlib.Nat.{zero-add}
 use lib.Dec.{eqb, ltb, leb, lit≤}
 use lib.ListN.{length, drop, length-take}
-use Rattle.codes.specs.Code.{readable}
 use Rattle.codes.proofs.Put.{put-fits}
 use Rattle.blocks.specs.Block.{blockLimit}
 use Rattle.part.specs.Layout.{partSize, responseAt, waitingLength, responseRoom, waiting}
@@ -93,7 +92,7 @@ past-two true b x y n e = absurd (omega arith)
 past-two false true x y n e = absurd (omega arith)
 past-two false false x y n e = e
 
-done-tests : (c : Call) (s : List ℕ) → numberIn (answer kinds c s) ≡ 0 → kindOf c .tests (partOf (owner c) s) ≡ 0
+pub done-tests : (c : Call) (s : List ℕ) → numberIn (answer kinds c s) ≡ 0 → kindOf c .tests (partOf (owner c) s) ≡ 0
 done-tests c s e =
     past-two (not (leb 1 (owner c) && leb (owner c) farms)) (not (eqb (length s) stationSize) || not (wellFormed (owner c) (partOf (owner c) s))) 0 1 _
     (sym (numbered-by-table c s) ∙ e)

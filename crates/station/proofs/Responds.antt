@@ -27,11 +27,11 @@ use Rattle.station.specs.Parts.{farms, stationSize, partOf}
 use Rattle.station.specs.Frame.{lengthByte, blockOf, isWrite, fetchOf, frameRefusal, frameAnswer, frameReply, framePart}
 use Rattle.station.specs.Exchange.{fetchAll}
 use Rattle.station.specs.Runs.{runEnd}
-use Rattle.station.specs.Isolation.{answer, after, machine}
+use Rattle.station.specs.Isolation.{after, machine}
 use Rattle.station.specs.Calls.{Call, frame, toFrame, numberIn, kindOf, owner, kinds}
 use Rattle.station.specs.Laws.{writeOf, Between, replied, RespondsAsRuled, FetchFollows}
 use Rattle.station.proofs.Isolation.{Right, took-answer, fine, length-after, own, other}
-use Rattle.station.proofs.Passes.{waits-all, write-passes, fetch-passes, left-formed, something-waits}
+use Rattle.station.proofs.Passes.{waits-all, write-passes, fetch-passes, fetched-part, left-formed, left-is, something-waits}
 use Rattle.station.proofs.Owes.{owes, sized}
 use Rattle.station.proofs.Frames.{formed}
 use Rattle.station.proofs.Refusals.{was-done, reply-stands}
@@ -55,18 +55,18 @@ module _ (k : ℕ) (f m p : List ℕ) (e : frameRefusal k f (length m) p ≡ 0) 
       isWrite f ≡ true
       → (toFrame (frameAnswer k f m p) (frameReply k f m p) ≡ replied (0x5F ∷ 0 ∷ 0x2F ∷ lengthByte f ∷ []) (outcomeOf k (blockOf f) p .stored) m)
       × (framePart k f m p ≡ outcomeOf k (blockOf f) p .part)
-  unfolding frameAnswer framePart
-  written is = (rw (reply-stands k f m p, e, is) refl, rw (e, is) refl)
+  unfolding frameAnswer
+  written is = (rw (reply-stands k f m p, e, is) refl, left-is k f m p e is)
 
   fetched :
       isWrite f ≡ false → (bs : List ℕ) → waitingLength p ≡ length bs → waiting p ≡ bs
       → (toFrame (frameAnswer k f m p) (frameReply k f m p) ≡ replied (0x5E ∷ 0 ∷ 0x2F ∷ length bs ∷ bs) 0 m)
       × (framePart k f m p ≡ withResponse [] p)
-  unfolding frameAnswer framePart
+  unfolding frameAnswer
   fetched isnt bs long same =
       let reply : 0x5E ∷ 0 ∷ 0x2F ∷ waitingLength p ∷ waiting p ≡ 0x5E ∷ 0 ∷ 0x2F ∷ length bs ∷ bs =
       ap (λ (x : ℕ). 0x5E ∷ 0 ∷ 0x2F ∷ x ∷ waiting p) long ∙ ap (λ (l : List ℕ). 0x5E ∷ 0 ∷ 0x2F ∷ length bs ∷ l) same in
-      (rw (reply-stands k f m p, e, isnt) (ap (λ (l : List ℕ). replied l 0 m) reply), rw (e, isnt) refl)
+      (rw (reply-stands k f m p, e, isnt) (ap (λ (l : List ℕ). replied l 0 m) reply), fetched-part k f m p e isnt)
 
 -- the response waits, whatever comes between
 record Waits (k : ℕ) (bs s : List ℕ) : Type 0 where
@@ -105,7 +105,7 @@ module _ (k : ℕ) (low : 1 ≤ k) (high : k ≤ farms) (bs : List ℕ) (some : 
             size = length-after kinds sized c s ∙ h .size;
             formed =
                 ap (wellFormed k) mine
-                ∙ subst (λ (j : ℕ). wellFormed j (partOf j s) ≡ true → wellFormed j (kindOf c .leaves (partOf j s)) ≡ true) same (owes c .formed (partOf (owner c) s) (b .fits)) (h .formed);
+                ∙ subst (λ (j : ℕ). wellFormed j (partOf j s) ≡ true → wellFormed j (kindOf c .leaves (partOf j s)) ≡ true) same (owes c .formed (partOf (owner c) s) (b .fits same)) (h .formed);
             waits = ap waiting mine ∙ (owes c .waits (partOf k s) (b .stays same) (full (partOf k s) (h .waits)) ∙ h .waits);
           }
 
@@ -153,9 +153,9 @@ responds-as-ruled k r s m between n w rest fits short mine room calls enough mos
           ∙ waiting-length-is [] q (formed k q (still .formed) .0) (omega arith);
     }
 
-pub fetch-after-write : FetchFollows
+pub fetch-follows : FetchFollows
 unfolding frameAnswer
-fetch-after-write k f m s between w is z calls wide =
+fetch-follows k f m s between w is z calls wide =
     let d = was-done (frame k f m) s z in
     let p : List ℕ = partOf k s in
     let write = frame k f m in

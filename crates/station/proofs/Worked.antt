@@ -1,4 +1,4 @@
--- P1 to P8 answer and end as document 01 says: one statement over the list of them.
+-- P1 to P8, and frames of these as merged calls, answer and end as the documents say: one statement over each list of them.
 use mathlib.Core.Path.{_≡_, refl, ap, _∙_}
 use mathlib.Core.List.{List, [], _∷_, map}
 use Prim.Native.Nat.{ℕ, _+_, _-_, _*_, _≤_}

@@ -40,6 +40,6 @@ machine K = record { Memory = List ℕ; Call = K .Call; Answer = K .Answer; answ
 unfoldable pub Isolated : Kinds → Type 0
 Isolated K = (k : ℕ) → 1 ≤ k → k ≤ farms → SameSeen (machine K) (λ s. length s ≡ stationSize) (λ c. eqb (K .owner c) k) (partOf k)
 
--- what each kind of call owes: of a part it leaves a part
+-- all that isolation asks of the kinds: of a part each call leaves a part
 unfoldable pub Sized : Kinds → Type 0
 Sized K = (c : K .Call) (p : List ℕ) → length p ≡ partSize → length (K .leaves c p) ≡ partSize

@@ -141,7 +141,7 @@ writeOf r = 0x5F ∷ 0 ∷ 0x2F ∷ length (requestBytes r) ∷ requestBytes r
 
 -- what may come between a write of farm k and its fetch: every call of others, and of its own every one that does not fetch
 pub record Between (k : ℕ) (c : Call) : Type 0 where
-  pub fits : kindOf c .Fits
+  pub fits : owner c ≡ k → kindOf c .Fits
   pub stays : owner c ≡ k → kindOf c .fetches ≡ false
 
 -- a frame that was worked: the elements stored, and the reply, past which the reply memory m is as it was
@@ -158,7 +158,7 @@ module _ (k : ℕ) (r : Request) (s m : List ℕ) (between : List Call) (n : ℕ
   abbrev pub atFetch : List ℕ
   atFetch = runEnd (machine kinds) between (after kinds (frame k (writeOf r) m) s)
 
-  pub record Exchanged : Type 0 where
+  pub record Responded : Type 0 where
     pub fits : ResponseFits ruled
     pub short : length (responseBytes ruled) ≤ blockLimit
     pub acknowledged :
@@ -175,9 +175,9 @@ RespondsAsRuled =
     → AtRest k s → RequestFits r → length (requestBytes r) ≤ blockLimit → r .axis ≡ k → 244 ≤ length m
     → AllOf (Between k) between
     → length (responseBytes (worked r (partOf k s) .response)) ≤ n → n ≤ blockLimit → 244 ≤ length w
-    → Exchanged k r s m between n w
+    → Responded k r s m between n w
 
--- Document 02, R-3: the fetch with F0 after a write that was done "cannot be refused", whatever may come between,
+-- Document 02, R-3: the fetch with F0 after a write that was done is never refused, whatever may come between,
 abbrev pub FetchFollows : Type 0
 FetchFollows =
     (k : ℕ) (f m s : List ℕ) (between : List Call) (w : List ℕ)
@@ -193,13 +193,19 @@ InTurn =
     → (answer kinds (exchange k f m) s ≡ toFrame (record { length = fetch .length; stored = write .stored; number = 0 }) m″)
     × (after kinds (exchange k f m) s ≡ after kinds (frame k fetchAll m′) (after kinds (frame k f m) s))
 
--- "where the write is refused, the write alone" (a read is refused by the table: 4 where the farm, the part and the room are right),
+-- "where the write is refused, the write alone",
 abbrev pub WriteAlone : Type 0
 WriteAlone =
     (k : ℕ) (f m s : List ℕ) → isRead f ≡ false → (numberIn (answer kinds (frame k f m) s) ≡ 0 → ⊥)
     → (answer kinds (exchange k f m) s ≡ answer kinds (frame k f m) s) × (after kinds (exchange k f m) s ≡ after kinds (frame k f m) s)
 
--- and in terms of requests: farm k at rest is answered by the response that the rules give for its part, "leaving the axis idle"
+-- and a read is answered as no frame at all: 4, after 1, 2 and 3, whatever follows its first byte
+abbrev pub ReadAsNone : Type 0
+ReadAsNone =
+    (k : ℕ) (f m s : List ℕ) → isRead f ≡ true
+    → (answer kinds (exchange k f m) s ≡ answer kinds (frame k [] m) s) × (after kinds (exchange k f m) s ≡ s)
+
+-- In terms of requests: farm k at rest is answered by the response that the rules give for its part, "leaving the axis idle"
 pub record Merged (k : ℕ) (r : Request) (s m : List ℕ) : Type 0 where
   pub answered :
       let given = responseBytes (worked r (partOf k s) .response) in
@@ -213,13 +219,13 @@ MergesAsRuled =
     → AtRest k s → RequestFits r → length (requestBytes r) ≤ blockLimit → r .axis ≡ k → 244 ≤ length m
     → Merged k r s m
 
--- It rests on what waits after a block is worked,
+-- What a fetch answers rests on what waits after a block is worked,
 abbrev pub WaitsAsRuled : Type 0
 WaitsAsRuled =
     (k : ℕ) (s p : List ℕ) (r : Request) → length p ≡ partSize → readable blockLimit request s ≡ true → request .read s ≡ got r [] → r .axis ≡ k
     → (waiting (outcomeOf k s p .part) ≡ response .write (worked r p .response)) × (readable blockLimit response (waiting (outcomeOf k s p .part)) ≡ true)
 
--- and that a cycle leaves it waiting
+-- and that every call which does not fetch leaves it waiting (`Owes`): a cycle whatever waits
 abbrev pub CycleKeepsWaiting : Type 0
 CycleKeepsWaiting = (k : ℕ) (i : Sent) (p : List ℕ) → waiting (cyclePart k i p) ≡ waiting p
 

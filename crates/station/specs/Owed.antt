@@ -1,4 +1,6 @@
--- What every kind of call owes, said once for all of them: the laws of a station (Laws.antt) rest on this and on no case of a kind.
+-- Document 01, "The order of checks is the order of numbers", "the whole station after any refusal, stay[s] unchanged", and "A waiting
+-- response outlives" refusals, as every kind of call owes it, said once for all of them: on this rest the laws of numbers, refusals, well-formed
+-- parts, isolation and what may come between a write and its fetch (Laws.antt).
 use mathlib.Core.Path.{_≡_}
 use mathlib.Core.Bool.{true, false, cond, not}
 use mathlib.Core.List.{List}

@@ -1,4 +1,4 @@
-// The tests 2 to 9 of a frame, in the order of their numbers.
+// The tests 2 to 9 of a frame, in the order of their numbers; and how much of a frame a merged call takes.
 ghost use mathlib.Core.Path.{_≡_};
 ghost use mathlib.Core.Bool.{not, _&&_, _||_};
 ghost use Prim.Native.Nat.{_≤_};
@@ -32,10 +32,7 @@ pub(crate) fn function_of(f: &[u8]) -> u8
 pub(crate) fn unread_length(f: &[u8]) -> usize
     ensures { λ r. ⌜ r ≡ length (noRead (now (f .entry))) ⌝ }
 {
-    if function_of(f) == READ {
-        return 0;
-    }
-    f.len()
+    if function_of(f) == READ { 0 } else { f.len() }
 }
 
 fn is_function(b: u8) -> bool

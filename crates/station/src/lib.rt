@@ -133,9 +133,9 @@ pub fn exchange(station: &mut [u8], farm: u32, f: &[u8], reply: &mut [u8]) -> Fr
     if written.number != 0 {
         return written;
     }
-    let a = (farm as usize - 1) * part::SIZE;
-    let e = a + part::SIZE;
-    let fetched = part_frame::read_on(&mut station[a..e], reply);
+    let start = (farm as usize - 1) * part::SIZE;
+    let end = start + part::SIZE;
+    let fetched = part_frame::read_on(&mut station[start..end], reply);
     Framed {
         length: fetched.length,
         stored: written.stored,

@@ -35,7 +35,7 @@ fn write_on(part: &mut [u8], k: u8, f: &[u8], reply: &mut [u8]) -> Framed
     }
 }
 
-// A read that passed numbers 2 to 9: the response is handed over, and none waits.
+// A read that passed numbers 2 to 9, or the fetch of a merged call: the response is handed over, and none waits.
 pub(crate) fn read_on(part: &mut [u8], reply: &mut [u8]) -> Framed
     requires { ⌜ (length (now part) ≡ partSize) × ((waitingLength (now part) ≤ blockLimit) × (4 + blockLimit ≤ length (now reply))) ⌝ }
     ensures { λ r. ⌜ r ≡ framed (fetched (now (part .entry))) 0 0 ⌝ }

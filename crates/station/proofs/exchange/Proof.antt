@@ -35,19 +35,19 @@ returns c =
     let e = rw (c .before .before .before .before .before .before .before .before .before .before .unread-length .ensures, unread-bytes (now (a .f)) .1) at (w .ensures) in
     stops (a .farm) (now (a .f)) (now (a .reply)) (now (a .station)) (w .result) (w .last .1 .1 .1 .0) (w .last .0) (e .0) (e .1) (c .if1 .taken)
 
-sub-a : tie.Need-sub-a
-sub-a c =
+sub-start : tie.Need-sub-start
+sub-start c =
     let a = c .before .before .before .before .before .before .before .before .before .before .before .before .before .before .args in
     let w = c .before .before .before .before .before .before .frame in
     let e = rw (c .before .before .before .before .before .before .before .before .before .before .unread-length .ensures, unread-bytes (now (a .f)) .1) at (w .ensures) in
     let h = home (a .farm) (now (a .f)) (now (a .reply)) (now (a .station)) (w .result) (w .last .1 .1 .1 .0) (w .last .0) (e .0) (e .1) (c .if1 .left) in
     search needs
 
-mul-a : tie.Need-mul-a
-mul-a c = search needs
+mul-start : tie.Need-mul-start
+mul-start c = search needs
 
-add-e : tie.Need-add-e
-add-e c = search needs
+add-end : tie.Need-add-end
+add-end c = search needs
 
 sub-read-on : tie.Need-sub-read-on
 sub-read-on c = search needs
@@ -99,9 +99,9 @@ exchange-spec =
     same-length
     same-length-2
     returns
-    sub-a
-    mul-a
-    add-e
+    sub-start
+    mul-start
+    add-end
     sub-read-on
     part-read-on-start
     part-read-on-end
