@@ -125,9 +125,10 @@ struct llinkhiro_framed llinkhiro_frame(uint8_t *station, size_t station_len, ui
  * It is the same as two calls of llinkhiro_frame one after the other: the write, and 5E 00 2F F0 with the same reply memory.
  * The reply is the fetch's: 5E 00 2F, the length of the response, and the response (8 to 244 bytes in all); `stored` is the
  * write's. No response waits after it. The fetch of a write that was done is never refused.
- * Where the write is refused, it is that write and nothing more: the same number and reply. So a response that waited before
- * it is 8, and goes on waiting: it is fetched with llinkhiro_frame.
- * A read, whatever follows its first byte, is 4: the reply is empty (length 0), and the reply memory is not touched.
+ * Where the write is refused, it is that write and nothing more: the same number and reply. So where a response waited
+ * already, the number is 8 and that response goes on waiting; fetch it with llinkhiro_frame.
+ * A read, whatever follows its first byte, is 4, after 1 to 3: the reply is empty (length 0), and the reply memory is not
+ * touched.
  *
  * The bytes of the reply memory after the reply are as they were. Changes the part of that farm's axis and no other.
  */
