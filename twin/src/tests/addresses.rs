@@ -1,11 +1,11 @@
-use super::{change, exchange, hex, request, UNTOUCHED};
+use super::{change, hex, request, write_and_fetch, UNTOUCHED};
 use crate::parameter::{error, read};
 use crate::{Address, Axis, Station};
 
 /// The error of one read address.
 fn read_error(address: &str) -> u8 {
     let mut station = Station::fresh();
-    let (stored, response) = exchange(&mut station, 1, &request(1, 1, &[address]));
+    let (stored, response) = write_and_fetch(&mut station, 1, &request(1, 1, &[address]));
     assert_eq!((stored, &response[..7]), (0, &hex("01 81 01 01 44 01 00")[..]), "{address}");
     assert_eq!(response.len(), 8);
     assert!(station == Station::fresh());
@@ -15,7 +15,7 @@ fn read_error(address: &str) -> u8 {
 /// The error of one changed address, and the elements stored before it.
 fn change_error(address: &str, values: &str) -> (u8, u16) {
     let mut station = Station::fresh();
-    let (stored, response) = exchange(&mut station, 1, &change(1, 1, &[(address, values)]));
+    let (stored, response) = write_and_fetch(&mut station, 1, &change(1, 1, &[(address, values)]));
     assert_eq!(&response[..7], &hex("01 82 01 01 44 01 00")[..], "{address} {values}");
     assert_eq!(response.len(), 8);
     assert!(stored != 0 || station == Station::fresh());
@@ -25,7 +25,7 @@ fn change_error(address: &str, values: &str) -> (u8, u16) {
 /// The part after a change that must succeed, and its stored count.
 fn changed(address: &str, values: &str) -> (Axis, u16) {
     let mut station = Station::fresh();
-    let (stored, response) = exchange(&mut station, 1, &change(1, 1, &[(address, values)]));
+    let (stored, response) = write_and_fetch(&mut station, 1, &change(1, 1, &[(address, values)]));
     assert_eq!(response, hex("01 02 01 01"), "{address} {values}");
     assert!(station.axes[1..] == Station::fresh().axes[1..]);
     (station.axes[0].clone(), stored)
@@ -136,7 +136,7 @@ fn stores_are_counted_not_differences() {
     assert_eq!(changed("10 04 75 31 00 00", "42 04 00 01 00 02 00 03 00 04").1, 4);
     let mut station = Station::fresh();
     let twice = [("10 01 26 AC 00 00", "42 01 00 05"), ("10 01 26 AC 00 00", "42 01 00 06")];
-    assert_eq!(exchange(&mut station, 1, &change(1, 1, &twice)), (2, hex("01 02 01 02")));
+    assert_eq!(write_and_fetch(&mut station, 1, &change(1, 1, &twice)), (2, hex("01 02 01 02")));
     assert_eq!(station.axes[0].p9900, 6);
 }
 
@@ -153,7 +153,7 @@ fn a_failed_change_goes_on() {
             ("10 02 75 34 00 00", "04 02 00 00 00 01 FF FF FF FF"),
         ],
     );
-    let (stored, response) = exchange(&mut station, 16, &block);
+    let (stored, response) = write_and_fetch(&mut station, 16, &block);
     assert_eq!(stored, 1 + 2 + 2);
     assert_eq!(response, hex("11 82 10 04 40 00 44 01 00 02 44 01 00 00 40 00"));
     let part = &station.axes[15];
@@ -165,7 +165,7 @@ fn the_change_with_most_failures() {
     let mut station = Station::fresh();
     let block = change(1, 1, &[("10 01 00 01 00 00", "41 00"); 29]);
     assert_eq!(block.len(), 236);
-    let (stored, response) = exchange(&mut station, 1, &block);
+    let (stored, response) = write_and_fetch(&mut station, 1, &block);
     assert_eq!((stored, response.len()), (0, 120));
     assert_eq!(response[4..], hex("44 01 00 00").repeat(29));
 }
@@ -174,7 +174,7 @@ fn the_change_with_most_failures() {
 fn reads_with_errors_between_values() {
     let mut station = Station::fresh();
     let block = request(2, 1, &["10 01 03 A2 00 00", "10 01 03 A1 00 00", "10 01 03 C5 00 01"]);
-    assert_eq!(exchange(&mut station, 1, &block).1, hex("02 81 01 03 42 01 00 01 44 01 00 00 41 01 29 00"));
+    assert_eq!(write_and_fetch(&mut station, 1, &block).1, hex("02 81 01 03 42 01 00 01 44 01 00 00 41 01 29 00"));
 }
 
 #[test]

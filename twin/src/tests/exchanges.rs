@@ -1,8 +1,8 @@
 //! The merged call: R-3 of document 02, readings 11 and 12.
 
 use super::{
-    assert_merged_refused, assert_refused, change, exchange, fetch, hex, request, send, send_and_fetch, worked_write,
-    write_frame, UNTOUCHED,
+    assert_merged_refused, assert_refused, change, fetch, hex, request, send, send_merged, worked_write,
+    write_and_fetch, write_frame, UNTOUCHED,
 };
 use crate::{Framed, Station};
 
@@ -23,7 +23,7 @@ fn reads() -> Vec<Vec<u8>> {
 #[test]
 fn the_worked_write_in_one_call() {
     let mut station = Station::fresh();
-    let (framed, reply) = send_and_fetch(&mut station, 1, &worked_write());
+    let (framed, reply) = send_merged(&mut station, 1, &worked_write());
     assert_eq!(framed, Framed { length: 12, stored: 1, number: 0 });
     assert_eq!(reply, hex("5E 00 2F 08 07 82 01 01 44 01 00 02"));
     let mut expected = Station::fresh();
@@ -35,7 +35,7 @@ fn the_worked_write_in_one_call() {
 #[test]
 fn a_request_in_one_call() {
     let mut station = Station::fresh();
-    let (framed, reply) = send_and_fetch(&mut station, 16, &ask(16));
+    let (framed, reply) = send_merged(&mut station, 16, &ask(16));
     assert_eq!(framed, Framed { length: 12, stored: 0, number: 0 });
     assert_eq!(reply, hex("5E 00 2F 08 05 01 10 01 42 01 00 01"));
     assert!(station == Station::fresh());
@@ -45,7 +45,7 @@ fn a_request_in_one_call() {
 fn the_least_reply_covers_the_acknowledgement() {
     let mut station = Station::fresh();
     let parameters = [("10 01 26 AC 00 00", "42 01 00 05"), ("10 02 75 31 00 02", "42 02 03 E8 0B B8")];
-    let (framed, reply) = send_and_fetch(&mut station, 3, &write_frame(&change(9, 3, &parameters)));
+    let (framed, reply) = send_merged(&mut station, 3, &write_frame(&change(9, 3, &parameters)));
     assert_eq!(framed, Framed { length: 8, stored: 3, number: 0 });
     assert_eq!(reply, hex("5E 00 2F 04 09 02 03 02"));
     assert_eq!((station.axes[2].p9900, station.axes[2].p30001), (5, [0, 0, 1000, 3000]));
@@ -69,19 +69,20 @@ fn the_largest_reply_fills_244_bytes() {
 fn the_axis_is_idle_again() {
     let mut station = Station::fresh();
     for _ in 0..3 {
-        assert_eq!(send_and_fetch(&mut station, 1, &worked_write()).0.number, 0, "the next user gets no B5");
+        assert_eq!(send_merged(&mut station, 1, &worked_write()).0.number, 0, "the next user gets no B5");
     }
     assert_refused(&mut station, 1, &hex("5E 00 2F F0"), 8, "DE 80 B5 00");
-    assert_eq!(exchange(&mut station, 1, &request(1, 1, &["10 01 03 A2 00 00"])).1, hex("01 01 01 01 42 01 00 01"));
+    let (_, response) = write_and_fetch(&mut station, 1, &request(1, 1, &["10 01 03 A2 00 00"]));
+    assert_eq!(response, hex("01 01 01 01 42 01 00 01"));
 }
 
 #[test]
 fn number_1() {
     let mut station = Station::fresh();
     for farm in [0, 17, 257, u32::MAX] {
-        for frame in [worked_write(), ask(farm as u8), hex("5E 00 2F F0")] {
-            assert_merged_refused(&mut station, farm, &frame, 1, "");
-        }
+        assert_merged_refused(&mut station, farm, &worked_write(), 1, "");
+        assert_merged_refused(&mut station, farm, &ask(farm as u8), 1, "");
+        assert_merged_refused(&mut station, farm, &hex("5E 00 2F F0"), 1, "");
     }
 }
 
@@ -91,18 +92,23 @@ fn number_2() {
     station.axes[0].p30002 = 16385;
     assert_merged_refused(&mut station, 1, &worked_write(), 2, "");
     assert_merged_refused(&mut station, 1, &hex("5E 00 2F F0"), 2, "");
-    assert_eq!(send_and_fetch(&mut station, 2, &ask(2)).0.number, 0, "only the own part is tested");
+    assert_eq!(send_merged(&mut station, 2, &ask(2)).0.number, 0, "only the own part is tested");
+}
+
+/// Makes a merged call with so much reply memory, which is too little, and stays as it is.
+fn assert_too_little(station: &mut Station, frame: &[u8], length: usize) {
+    let mut memory = vec![UNTOUCHED; length];
+    assert_eq!(station.exchange(1, frame, &mut memory), Framed { length: 0, stored: 0, number: 3 });
+    assert!(memory.iter().all(|byte| *byte == UNTOUCHED));
 }
 
 #[test]
 fn number_3() {
     let mut station = Station::fresh();
     for frame in [worked_write(), vec![], hex("5F 01 2F 00")].into_iter().chain(reads()) {
-        for length in [0, 12, 243] {
-            let mut memory = vec![UNTOUCHED; length];
-            assert_eq!(station.exchange(1, &frame, &mut memory), Framed { length: 0, stored: 0, number: 3 });
-            assert!(memory.iter().all(|byte| *byte == UNTOUCHED));
-        }
+        assert_too_little(&mut station, &frame, 0);
+        assert_too_little(&mut station, &frame, 12);
+        assert_too_little(&mut station, &frame, 243);
     }
     assert!(station == Station::fresh());
 }
@@ -128,63 +134,13 @@ fn number_4_is_every_read() {
 }
 
 #[test]
-fn number_5() {
-    let mut station = Station::fresh();
-    for frame in ["5F 01 2F 00", "5F FF 2F F0", "5F 2F 00 FF 00"] {
-        assert_merged_refused(&mut station, 1, &hex(frame), 5, "DF 80 B2 00");
-    }
-}
-
-#[test]
-fn number_6() {
-    let mut station = Station::fresh();
-    for frame in ["5F 00 2E 00", "5F 00 30 FF", "5F 00 00 F0 00"] {
-        assert_merged_refused(&mut station, 1, &hex(frame), 6, "DF 80 B0 00");
-    }
-}
-
-#[test]
-fn number_7() {
-    let mut station = Station::fresh();
-    for frame in ["5F 00 2F F0", "5F 00 2F 01", "5F 00 2F 00 00"] {
-        assert_merged_refused(&mut station, 1, &hex(frame), 7, "DF 80 B1 00");
-    }
-    for length in [241, 255, 256 + 16] {
-        let mut frame = worked_write();
-        frame.resize(4 + length, 0);
-        frame[3] = length as u8;
-        assert_merged_refused(&mut station, 1, &frame, 7, "DF 80 B1 00");
-    }
-}
-
-#[test]
-fn number_8() {
+fn number_8_is_for_a_response_of_the_own_axis() {
     let mut station = Station::fresh();
     send(&mut station, 1, &worked_write());
-    for frame in [worked_write(), ask(1), ask(2), hex("5F 00 2F 00")] {
-        assert_merged_refused(&mut station, 1, &frame, 8, "DF 80 B5 00");
-    }
-    assert_eq!(send_and_fetch(&mut station, 2, &ask(2)).0.number, 0, "another farm's call is its own");
+    assert_merged_refused(&mut station, 1, &ask(1), 8, "DF 80 B5 00");
+    assert_eq!(send_merged(&mut station, 2, &ask(2)).0.number, 0, "another farm's call is its own");
     assert_eq!(fetch(&mut station, 1), hex("07 82 01 01 44 01 00 02"), "it outlives 8");
-    assert_eq!(send_and_fetch(&mut station, 1, &ask(1)).0.number, 0);
-}
-
-#[test]
-fn number_10() {
-    let mut station = Station::fresh();
-    let fill = "01 02 01 01 10 01 03 C5 00 00 41 01 03 01";
-    for block in ["", "01", "01 01 01 01 10 01 03 A2 00", "00 01 02 01 10 01 03 A2 00 00", fill] {
-        assert_merged_refused(&mut station, 1, &write_frame(&hex(block)), 10, "DF 80 B8 00");
-    }
-}
-
-#[test]
-fn number_11() {
-    let mut station = Station::fresh();
-    for axis in [0, 2, 17, 255] {
-        let block = change(1, axis, &[("10 01 26 AC 00 00", "42 01 12 34")]);
-        assert_merged_refused(&mut station, 1, &write_frame(&block), 11, "DF 80 B6 00");
-    }
+    assert_eq!(send_merged(&mut station, 1, &ask(1)).0.number, 0);
 }
 
 /// What each refusal replies, those of a write as document 01 lists them.
@@ -243,9 +199,9 @@ fn assert_first_counts(numbers: &[u8], function: Option<u8>) {
 fn the_order_of_checks_is_the_order_of_numbers() {
     for chosen in 1..1 << REFUSALS.len() {
         let numbers: Vec<u8> = (0..REFUSALS.len()).filter(|i| chosen >> i & 1 == 1).map(|i| REFUSALS[i].0).collect();
-        for function in [None, Some(0x5D), Some(0x5E)] {
-            assert_first_counts(&numbers, function);
-        }
+        assert_first_counts(&numbers, None);
+        assert_first_counts(&numbers, Some(0x5D));
+        assert_first_counts(&numbers, Some(0x5E));
     }
-    assert_eq!(send_and_fetch(&mut Station::fresh(), 1, &faulty(&[], None)).0.number, 0, "none earned");
+    assert_eq!(send_merged(&mut Station::fresh(), 1, &faulty(&[], None)).0.number, 0, "none earned");
 }

@@ -1,4 +1,4 @@
-use super::{assert_refused, change, exchange, fetch, hex, request, send, worked_write, write_frame, UNTOUCHED};
+use super::{assert_refused, change, fetch, hex, request, send, worked_write, write_and_fetch, write_frame, UNTOUCHED};
 use crate::{Framed, Station};
 
 #[test]
@@ -31,7 +31,8 @@ fn number_2() {
     assert_refused(&mut station, 1, &worked_write(), 2, "");
     assert_eq!(station.frame(1, &[], &mut []), Framed { length: 0, stored: 0, number: 2 });
     let block = request(1, 2, &["10 01 03 A2 00 00"]);
-    assert_eq!(exchange(&mut station, 2, &block).1, hex("01 01 02 01 42 01 00 01"), "only the own part is tested");
+    let (_, response) = write_and_fetch(&mut station, 2, &block);
+    assert_eq!(response, hex("01 01 02 01 42 01 00 01"), "only the own part is tested");
 }
 
 #[test]
@@ -113,7 +114,8 @@ fn number_9() {
 #[test]
 fn number_10() {
     let mut station = Station::fresh();
-    for block in ["", "01", "01 01 01 01 10 01 03 A2 00", "00 01 02 01 10 01 03 A2 00 00"] {
+    let misfilled = "01 02 01 01 10 01 03 C5 00 00 41 01 03 01";
+    for block in ["", "01", "01 01 01 01 10 01 03 A2 00", "00 01 02 01 10 01 03 A2 00 00", misfilled] {
         assert_refused(&mut station, 1, &write_frame(&hex(block)), 10, "DF 80 B8 00");
     }
 }
@@ -132,7 +134,7 @@ fn thirty_nine_parameters() {
     let mut station = Station::fresh();
     let block = request(9, 1, &["10 01 03 A2 00 00"; 39]);
     assert_eq!(block.len(), 238);
-    let (_, response) = exchange(&mut station, 1, &block);
+    let (_, response) = write_and_fetch(&mut station, 1, &block);
     assert_eq!(response[..4], hex("09 01 01 27"));
     assert_eq!(response[4..], hex("42 01 00 01").repeat(39));
 }
@@ -153,7 +155,7 @@ fn four_reads_of_all_947() {
     let mut station = Station::fresh();
     station.axes[0].situations = std::array::from_fn(|i| std::array::from_fn(|j| (0x100 * (i + 1) + j) as u16));
     let block = request(3, 1, &["10 20 03 B3 00 00"; 4]);
-    let (stored, response) = exchange(&mut station, 1, &block);
+    let (stored, response) = write_and_fetch(&mut station, 1, &block);
     assert_eq!((stored, response.len()), (0, 206));
     assert_eq!(response[..4], hex("03 81 01 04"));
     let mut values = hex("42 20");
@@ -169,10 +171,10 @@ fn the_largest_reply() {
     let mut station = Station::fresh();
     let mut addresses = vec!["10 20 03 B3 00 00"; 3];
     addresses.push("10 12 03 B3 00 00");
-    let (_, response) = exchange(&mut station, 1, &request(1, 1, &addresses));
+    let (_, response) = write_and_fetch(&mut station, 1, &request(1, 1, &addresses));
     assert_eq!((response.len(), response[1]), (240, 0x01), "202 + 2 + 36");
     addresses[3] = "10 13 03 B3 00 00";
-    let (_, response) = exchange(&mut station, 1, &request(1, 1, &addresses));
+    let (_, response) = write_and_fetch(&mut station, 1, &request(1, 1, &addresses));
     assert_eq!((response.len(), response[1]), (206, 0x81));
 }
 
@@ -181,7 +183,7 @@ fn after_too_long_later_addresses_are_still_answered() {
     let mut station = Station::fresh();
     let mut addresses = vec!["10 20 03 B3 00 00"; 4];
     addresses.extend(["10 01 03 A2 00 00", "20 20 03 B3 00 00", "10 02 03 C5 00 00"]);
-    let (_, response) = exchange(&mut station, 1, &request(1, 1, &addresses));
+    let (_, response) = write_and_fetch(&mut station, 1, &request(1, 1, &addresses));
     let block = |i: usize| response[4 + 66 * i..][..2].to_vec();
     assert_eq!((block(0), block(1), block(2)), (hex("42 20"), hex("42 20"), hex("42 20")), "202 + 4 * 4 fit");
     assert_eq!(response[202..], hex("44 01 00 15 42 01 00 01 44 01 00 09 41 02 03 29"));
@@ -194,11 +196,11 @@ fn four_bytes_are_kept_for_every_later_address() {
     // 4 + 66 + 2 + 2n + 4 * 37 <= 240 gives n <= 10.
     let mut addresses = vec!["10 20 03 B3 00 00", "10 0A 03 B3 00 00"];
     addresses.extend(["10 01 03 C5 00 01"; 37]);
-    let (_, response) = exchange(&mut station, 1, &request(1, 1, &addresses));
+    let (_, response) = write_and_fetch(&mut station, 1, &request(1, 1, &addresses));
     assert_eq!((response.len(), response[1]), (240, 0x01), "4 + 66 + 22 + 148");
     assert_eq!(response[92..], hex("41 01 29 00").repeat(37));
     addresses[1] = "10 0B 03 B3 00 00";
-    let (_, response) = exchange(&mut station, 1, &request(1, 1, &addresses));
+    let (_, response) = write_and_fetch(&mut station, 1, &request(1, 1, &addresses));
     assert_eq!((response.len(), response[1]), (222, 0x81), "4 + 66 + 4 + 148");
     assert_eq!(response[70..74], hex("44 01 00 15"));
     assert_eq!(response[74..], hex("41 01 29 00").repeat(37));
@@ -210,14 +212,14 @@ fn fill_bytes_count_for_too_long() {
     // Ten single elements of 965 are 40 bytes; 4 + 40 + 3 * 66 are 242. Without their fill bytes, 232 would fit.
     let mut addresses = vec!["10 01 03 C5 00 00"; 10];
     addresses.extend(["10 20 03 B3 00 00"; 3]);
-    let (_, response) = exchange(&mut station, 1, &request(1, 1, &addresses));
+    let (_, response) = write_and_fetch(&mut station, 1, &request(1, 1, &addresses));
     let whole = [hex("42 20"), vec![0; 64]].concat();
     let expected = [hex("01 81 01 0D"), hex("41 01 03 00").repeat(10), whole.repeat(2), hex("44 01 00 15")].concat();
     assert_eq!((response.len(), response), (4 + 40 + 132 + 4, expected));
     // The other side: nine of them are 36 bytes, and both elements at once take no more than one.
     addresses.remove(0);
     addresses[0] = "10 02 03 C5 00 00";
-    let (_, response) = exchange(&mut station, 1, &request(1, 1, &addresses));
+    let (_, response) = write_and_fetch(&mut station, 1, &request(1, 1, &addresses));
     assert_eq!((response.len(), response[1]), (4 + 36 + 198, 0x01));
 }
 
@@ -226,11 +228,11 @@ fn a_byte_and_its_fill_byte_fit_where_an_error_does() {
     let mut station = Station::fresh();
     let mut addresses = vec!["10 20 03 B3 00 00"; 3];
     addresses.extend(["10 10 03 B3 00 00", "10 01 03 C5 00 01"]);
-    let (_, response) = exchange(&mut station, 1, &request(1, 1, &addresses));
+    let (_, response) = write_and_fetch(&mut station, 1, &request(1, 1, &addresses));
     assert_eq!((response.len(), response[1]), (240, 0x01), "202 + 34 + 4");
     assert_eq!(response[236..], hex("41 01 29 00"));
     addresses[3] = "10 11 03 B3 00 00";
-    let (_, response) = exchange(&mut station, 1, &request(1, 1, &addresses));
+    let (_, response) = write_and_fetch(&mut station, 1, &request(1, 1, &addresses));
     assert_eq!((response.len(), response[1]), (210, 0x81), "202 + 36 leave 2 of the 4");
     assert_eq!(response[202..], hex("44 01 00 15 41 01 29 00"));
 }
@@ -253,7 +255,7 @@ fn one_element_of_965() {
         assert_eq!(reply, hex(&format!("5E 00 2F 08 05 01 01 01 {block}")));
     }
     let addresses = ["10 01 03 C5 00 00", "10 01 03 A2 00 00", "10 02 03 C5 00 00", "10 01 03 C5 00 01"];
-    let (_, response) = exchange(&mut station, 1, &request(6, 1, &addresses));
+    let (_, response) = write_and_fetch(&mut station, 1, &request(6, 1, &addresses));
     assert_eq!(response, hex("06 01 01 04 41 01 03 00 42 01 00 01 41 02 03 29 41 01 29 00"));
 }
 
@@ -264,7 +266,7 @@ fn changes_with_byte_values() {
         let block = |values: &str| change(1, 1, &[("10 01 03 C5 00 00", &format!("{format} {values}"))]);
         for (values, length) in [("00", 12), ("01 03 00", 14), ("02 03 29", 14), ("03 03 29 07 00", 16)] {
             assert_eq!(block(values).len(), length);
-            assert_eq!(exchange(&mut station, 1, &block(values)), (0, hex("01 82 01 01 44 01 00 01")));
+            assert_eq!(write_and_fetch(&mut station, 1, &block(values)), (0, hex("01 82 01 01 44 01 00 01")));
         }
         let missing = ["01 03", "03 03 29 07"];
         let others = ["01 03 01", "01 03 FF", "03 03 29 07 80"];
@@ -292,7 +294,7 @@ fn a_fill_byte_between_value_blocks() {
         assert_refused(&mut station, 1, &write_frame(&block(fill)), 10, "DF 80 B8 00");
     }
     assert!(station == Station::fresh(), "nor is what stands before it stored");
-    let (stored, response) = exchange(&mut station, 1, &block("00"));
+    let (stored, response) = write_and_fetch(&mut station, 1, &block("00"));
     assert_eq!((stored, response), (3, hex("01 82 01 03 40 00 44 01 00 01 40 00")));
     assert_eq!((station.axes[0].p9900, station.axes[0].p30001), (5, [1000, 3000, 0, 0]));
 }
@@ -387,11 +389,11 @@ fn reads_of_every_parameter() {
     ];
     let before = station.clone();
     for (address, block) in cases {
-        let (stored, response) = exchange(&mut station, 5, &request(0xFF, 5, &[address]));
+        let (stored, response) = write_and_fetch(&mut station, 5, &request(0xFF, 5, &[address]));
         assert_eq!((stored, response), (0, [hex("FF 01 05 01"), hex(block)].concat()), "{address}");
     }
     let addresses = cases.map(|case| case.0);
-    let (_, response) = exchange(&mut station, 5, &request(1, 5, &addresses));
+    let (_, response) = write_and_fetch(&mut station, 5, &request(1, 5, &addresses));
     assert_eq!(response, [hex("01 01 05 12"), cases.map(|case| hex(case.1)).concat()].concat());
     assert!(station == before);
 }

@@ -101,24 +101,32 @@ fn refused_merged_calls() {
     assert_eq!(run(&merged(1, &[0x5F; 244])), "e 1 0 DF80B200\n");
 }
 
-#[test]
-fn bad_records_end_the_run() {
+/// After the line of a good record, these bytes end the run.
+fn assert_bad(bytes: &[u8]) {
     let good = cycle(2, 0, 0, 0, 0, 0);
-    let line = "c 2 S1 0340 0\n";
-    let [cycle_body, frame_body] = [&good[1..], &frame(1, &worked_write())[1..]];
-    for kind in (0..=255u8).filter(|kind| !(1..=3).contains(kind)) {
-        for body in [cycle_body, frame_body] {
-            assert_eq!(run(&[&good[..], &[kind], body, &good].concat()), format!("{line}bad\n"), "kind {kind}");
-        }
+    assert_eq!(run(&[&good, bytes].concat()), "c 2 S1 0340 0\nbad\n", "{bytes:02X?}");
+}
+
+#[test]
+fn other_kinds_end_the_run() {
+    let (good, long) = (cycle(2, 0, 0, 0, 0, 0), frame(1, &worked_write()));
+    for kind in (0..=255).filter(|kind| !(1..=3).contains(kind)) {
+        assert_bad(&[&[kind], &good[1..], &good].concat());
+        assert_bad(&[&[kind], &long[1..], &good].concat());
     }
-    for length in 1..11 {
-        assert_eq!(run(&[&good[..], &good[..length]].concat()), format!("{line}bad\n"));
+}
+
+fn assert_bad_wherever_cut(record: &[u8]) {
+    for length in 1..record.len() {
+        assert_bad(&record[..length]);
     }
-    for long in [frame(1, &worked_write()), merged(1, &worked_write())] {
-        for length in 1..247 {
-            assert_eq!(run(&[&good[..], &long[..length]].concat()), format!("{line}bad\n"));
-        }
-    }
+}
+
+#[test]
+fn cut_records_end_the_run() {
+    assert_bad_wherever_cut(&cycle(2, 0, 0, 0, 0, 0));
+    assert_bad_wherever_cut(&frame(1, &worked_write()));
+    assert_bad_wherever_cut(&merged(1, &worked_write()));
 }
 
 #[test]

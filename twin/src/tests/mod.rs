@@ -63,7 +63,7 @@ pub fn send(station: &mut Station, farm: u32, frame: &[u8]) -> (Framed, Vec<u8>)
 }
 
 /// Runs the merged call and gives its reply.
-pub fn send_and_fetch(station: &mut Station, farm: u32, frame: &[u8]) -> (Framed, Vec<u8>) {
+pub fn send_merged(station: &mut Station, farm: u32, frame: &[u8]) -> (Framed, Vec<u8>) {
     make(Station::exchange, station, farm, frame)
 }
 
@@ -91,7 +91,7 @@ pub fn assert_merged_refused(station: &mut Station, farm: u32, frame: &[u8], num
 
 /// Writes a block that must be accepted, fetches the response, and gives the stored count and the response; the merged
 /// call gives both at once and leaves the same station.
-pub fn exchange(station: &mut Station, farm: u32, block: &[u8]) -> (u16, Vec<u8>) {
+pub fn write_and_fetch(station: &mut Station, farm: u32, block: &[u8]) -> (u16, Vec<u8>) {
     let mut merged = station.clone();
     let (framed, reply) = send(station, farm, &write_frame(block));
     assert_eq!(reply, [0x5F, 0x00, 0x2F, block.len() as u8]);
@@ -99,7 +99,7 @@ pub fn exchange(station: &mut Station, farm: u32, block: &[u8]) -> (u16, Vec<u8>
     let response = fetch(station, farm);
     let expected = Framed { length: 4 + response.len() as u16, ..framed };
     let reply = [&[0x5E, 0x00, 0x2F, response.len() as u8], &response[..]].concat();
-    assert_eq!(send_and_fetch(&mut merged, farm, &write_frame(block)), (expected, reply));
+    assert_eq!(send_merged(&mut merged, farm, &write_frame(block)), (expected, reply));
     assert!(merged == *station);
     (framed.stored, response)
 }
