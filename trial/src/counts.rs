@@ -47,6 +47,16 @@ pub fn named(counts: &[u64], names: &[&str]) -> String {
     each.collect::<Vec<_>>().join(", ")
 }
 
+/// Where one of a kind stands in the table of their names, by which it is counted.
+pub fn place<T: PartialEq>(of: T, names: &[(T, &str)]) -> usize {
+    names.iter().position(|(known, _)| *known == of).expect("each has its name")
+}
+
+/// The names of a table.
+pub fn names<T, const N: usize>(table: &[(T, &'static str); N]) -> [&'static str; N] {
+    table.each_ref().map(|(_, name)| *name)
+}
+
 /// The names of what was never met.
 pub fn unmet<'a>(counts: &'a [u64], names: &'a [&str]) -> impl Iterator<Item = &'a str> {
     names.iter().zip(counts).filter(|(_, times)| **times == 0).map(|(name, _)| *name)

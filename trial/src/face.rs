@@ -43,7 +43,7 @@ struct Asked {
     words: [u16; 4],
 }
 
-struct Answered {
+struct Heard {
     size: u64,
     cycled: Cycled,
     framed: Framed,
@@ -90,13 +90,13 @@ impl Server {
         self.to.flush()
     }
 
-    fn hear(&mut self, station: &mut [u8], reply: &mut [u8]) -> std::io::Result<Answered> {
+    fn hear(&mut self, station: &mut [u8], reply: &mut [u8]) -> std::io::Result<Heard> {
         let mut b = [0; 20];
         self.from.read_exact(&mut b)?;
         self.from.read_exact(station)?;
         self.from.read_exact(reply)?;
         let word = |at: usize| u16::from_le_bytes([b[at], b[at + 1]]);
-        Ok(Answered {
+        Ok(Heard {
             size: u64::from_le_bytes([b[0], b[1], b[2], b[3], b[4], b[5], b[6], b[7]]),
             cycled: Cycled {
                 rpm: i32::from_le_bytes([b[8], b[9], b[10], b[11]]),
@@ -109,7 +109,7 @@ impl Server {
     }
 }
 
-fn call(kind: u8, asked: &Asked, station: &mut [u8], frame: &[u8], reply: &mut [u8]) -> Answered {
+fn call(kind: u8, asked: &Asked, station: &mut [u8], frame: &[u8], reply: &mut [u8]) -> Heard {
     let mut server = SERVER.lock().expect("an earlier call failed");
     let server = server.get_or_insert_with(start);
     server

@@ -1,7 +1,7 @@
 //! What a run of calls has met of fill bytes: right and wrong ones in changes, in the responses that were written and
 //! fetched, and in those that a part was made up with.
 
-use crate::counts::{named, unmet};
+use crate::counts::{named, names, place, unmet};
 use crate::layout::{Block, Values, ADDRESS, BYTE_FORMATS, HEADER};
 use std::fmt::{self, Display, Formatter};
 use twin::{well_formed, Axis, Parameter, Waiting, BLOCK_MAX};
@@ -52,7 +52,7 @@ impl Fills {
     /// A request block was refused with number 10.
     pub fn refused(&mut self, block: &[u8]) {
         if let Some((format, fault)) = fault_of_request(block) {
-            self.refused[index_of(format)][fault as usize] += 1;
+            self.refused[index_of(format)][place(fault, &FAULTS)] += 1;
         }
     }
 
@@ -99,7 +99,7 @@ impl Fills {
             well_formed(&part, axis).then_some(block)
         };
         if let Some((_, fault)) = fault(bytes, HEADER, well_formed_with) {
-            self.ill_formed[fault as usize] += 1;
+            self.ill_formed[place(fault, &FAULTS)] += 1;
         }
     }
 
@@ -109,7 +109,7 @@ impl Fills {
         let mut want = |counts: &[u64], names: &[&str], what: String| {
             missing.extend(unmet(counts, names).map(|name| format!("{what}: {name}")));
         };
-        let faults = FAULTS.map(|(_, name)| name);
+        let faults = names(&FAULTS);
         want(&self.met, &MET, "fill byte".into());
         want(&self.ill_formed, &faults, "fill byte in a response refused with 2".into());
         for (format, (taken, refused)) in BYTE_FORMATS.iter().zip(self.taken.iter().zip(&self.refused)) {
@@ -122,7 +122,7 @@ impl Fills {
 
 impl Display for Fills {
     fn fmt(&self, f: &mut Formatter) -> fmt::Result {
-        let faults = FAULTS.map(|(_, name)| name);
+        let faults = names(&FAULTS);
         writeln!(f, "fill bytes {}", named(&self.met, &MET))?;
         writeln!(f, "           in a response that waits, number 2: {}", named(&self.ill_formed, &faults))?;
         for (format, (taken, refused)) in BYTE_FORMATS.iter().zip(self.taken.iter().zip(&self.refused)) {

@@ -1,7 +1,7 @@
 //! Journals: their records, read and played on the library.
 
 use crate::face;
-use crate::packets::Exchange;
+use crate::packets::Answered;
 use crate::sending::Sending;
 use crate::words::Inputs;
 use std::io::{self, ErrorKind, Read};
@@ -78,8 +78,8 @@ pub fn station() -> Vec<u8> {
     station
 }
 
-/// Plays the record with this number, counted from 1: the exchanges that it was, none for a cycle.
-pub fn play(station: &mut [u8], record: Record, number: u64) -> Vec<Exchange> {
+/// Plays the record in this place, counted from 1: the exchanges that it was, none for a cycle.
+pub fn play(station: &mut [u8], record: Record, place: u64) -> Vec<Answered> {
     match record {
         Record::Cycle(axis, i) => {
             face::cycle(station, axis.into(), i.flags, i.stw1, i.nsoll, i.nist, i.fault);
@@ -89,8 +89,8 @@ pub fn play(station: &mut [u8], record: Record, number: u64) -> Vec<Exchange> {
             let mut reply = vec![0; REPLY_MIN];
             let framed = sending.ours(station, farm.into(), &frame, &mut reply);
             reply.truncate(framed.length.into());
-            let (record, number, stored) = (number, framed.number, framed.stored);
-            Exchange { record, farm, frame, number, stored, reply }.by(sending)
+            let (number, stored) = (framed.number, framed.stored);
+            Answered { record: place, farm, frame, number, stored, reply }.by(sending)
         }
     }
 }
@@ -123,14 +123,18 @@ mod tests {
         assert!(matches!(next(&mut input), Ok(Next::End)));
     }
 
+    fn assert_bad(journals: &[&[u8]]) {
+        for mut journal in journals.iter().copied() {
+            assert!(matches!(next(&mut journal), Ok(Next::Bad)), "{journal:02X?}");
+        }
+    }
+
     #[test]
     fn bad_records() {
+        assert_bad(&[&[0], &[4], &[1, 1, 0]]);
         for kind in [2, 3] {
             let cut = &frame_record(kind, 4, &[0x5E, 0, 47, 0xF0])[..246];
-            let (long, behind) = (frame_record(kind, 245, &[]), frame_record(kind, 3, &[1, 2, 3, 4]));
-            for mut journal in [&[0][..], &[4], &[1, 1, 0], &[kind], cut, &long, &behind] {
-                assert!(matches!(next(&mut journal), Ok(Next::Bad)), "{journal:02X?}");
-            }
+            assert_bad(&[&[kind], cut, &frame_record(kind, 245, &[]), &frame_record(kind, 3, &[1, 2, 3, 4])]);
         }
     }
 }

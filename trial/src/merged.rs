@@ -25,7 +25,7 @@ const UNTAKEN: [&str; 7] = [
     "read with bytes behind it",
 ];
 /// What else there is to meet.
-const MET: [&str; 8] = [
+const MET: [&str; 7] = [
     "memory of another size",
     "element stored beside an error",
     "response of 240 bytes",
@@ -33,9 +33,9 @@ const MET: [&str; 8] = [
     "fill byte in a response",
     "fill byte refused with 10",
     "axis of another farm",
-    "fetch of a response that outlived one",
 ];
-const FETCHED: usize = MET.len() - 1;
+/// This one is met by the fetch, which is no merged call.
+const OUTLIVED: &str = "fetch of a response that outlived one";
 /// What the library's own calls in turn were made beside.
 const IN_TURN: [&str; 3] = ["done", "refused write", "read"];
 
@@ -61,7 +61,7 @@ impl Made<'_> {
     }
 
     /// Which of the things beside its number it was.
-    fn met(&self) -> [bool; FETCHED] {
+    fn met(&self) -> [bool; MET.len()] {
         let Framed { number, stored, .. } = self.framed;
         let block = self.frame.get(HEADER..).unwrap_or_default();
         // No other block is read here: the twin refuses some before it reads them, and to ask here would count as reached.
@@ -92,6 +92,7 @@ pub struct Merged {
     reads: Counts,
     worked: Worked,
     met: [u64; MET.len()],
+    outlived: u64,
     in_turn: [u64; IN_TURN.len()],
     /// Of each farm, the response that waited at its last merged call and was not fetched since.
     spared: [Vec<u8>; AXES],
@@ -124,7 +125,7 @@ impl Merged {
     /// The farm of this index has fetched this response by a read of its own.
     pub fn fetched(&mut self, owner: usize, response: &[u8]) {
         let spared = std::mem::take(&mut self.spared[owner]);
-        self.met[FETCHED] += u64::from(spared == response);
+        self.outlived += u64::from(spared == response);
     }
 
     /// What no merged call has met.
@@ -136,7 +137,7 @@ impl Merged {
             missing.extend(unmet(&self.untaken[waits], &UNTAKEN).map(|name| format!("number 4 {when}: {name}")));
         }
         missing.extend(self.reads.unmet(&BEFORE_READ).map(|number| format!("read with number {number}")));
-        missing.extend(unmet(&self.met, &MET).map(String::from));
+        missing.extend(unmet(&self.met, &MET).chain(unmet(&[self.outlived], &[OUTLIVED])).map(String::from));
         missing.extend(unmet(&self.in_turn, &IN_TURN).map(|name| format!("beside two calls in turn: {name}")));
         missing.iter().map(|what| format!("merged call: {what}")).collect()
     }
@@ -158,16 +159,15 @@ fn untaken(frame: &[u8]) -> usize {
 impl Display for Merged {
     fn fmt(&self, f: &mut Formatter) -> fmt::Result {
         let [idle, waits] = &self.numbers;
+        let untaken = |at: usize| format!("number 4 {}: {}", WHEN[at], named(&self.untaken[at], &UNTAKEN));
         writeln!(f, "merged     by number (0 accepted), {}: {}", WHEN[0], idle.list(&IDLE_NUMBERS))?;
         writeln!(f, "           {}: {}", WHEN[1], waits.list(&WAITING_NUMBERS))?;
-        for (when, untaken) in WHEN.iter().zip(&self.untaken) {
-            writeln!(f, "           number 4 {when}: {}", named(untaken, &UNTAKEN))?;
-        }
+        writeln!(f, "           {}\n           {}", untaken(0), untaken(1))?;
         writeln!(f, "           reads refused before: {}", self.reads.list(&BEFORE_READ))?;
         for (name, counts) in self.worked.lines() {
             writeln!(f, "           {name} {counts}")?;
         }
-        writeln!(f, "           {}", named(&self.met, &MET))?;
+        writeln!(f, "           {}, {OUTLIVED} {}", named(&self.met, &MET), self.outlived)?;
         writeln!(f, "           beside two calls in turn: {}", named(&self.in_turn, &IN_TURN))
     }
 }
@@ -193,7 +193,7 @@ mod tests {
     fn a_call_that_was_done() {
         let (mut merged, mut station) = (Merged::default(), Station::fresh());
         assert_eq!(make(&mut merged, &mut station, &READ_OF_965), 0);
-        assert_eq!((merged.met, merged.in_turn), ([0, 0, 0, 0, 1, 0, 0, 0], [1, 0, 0]));
+        assert_eq!((merged.met, merged.in_turn), ([0, 0, 0, 0, 1, 0, 0], [1, 0, 0]));
         let missing = merged.missing();
         assert!(!missing.contains(&"merged call: response 01".to_string()));
         assert!(!missing.contains(&"merged call: number 0 while none waits".to_string()));
@@ -207,10 +207,10 @@ mod tests {
         assert_eq!(make(&mut merged, &mut station, &READ_OF_965), 8);
         let response = response_of(&station.axes[1]).to_vec();
         merged.fetched(0, &response);
-        assert_eq!(merged.met[FETCHED], 0, "another farm's");
+        assert_eq!(merged.outlived, 0, "another farm's");
         merged.fetched(1, &response);
         merged.fetched(1, &response);
-        assert_eq!((merged.met[FETCHED], merged.in_turn), (1, [0, 1, 0]));
+        assert_eq!((merged.outlived, merged.in_turn), (1, [0, 1, 0]));
     }
 
     #[test]

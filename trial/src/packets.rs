@@ -34,12 +34,12 @@
 //! millisecond later, the write of a merged call a quarter, and then its fetch follows. n is also the DCE/RPC sequence
 //! number, and its low 16 bits are the SeqNumber, in all packets of the record.
 
-use crate::sending::{Sending, FETCH, READ};
+use crate::sending::{Sending, FETCH, READ, WRITE};
 use std::io::{self, Write};
 
 /// What a farm sent and what it was answered.
 #[derive(Clone, Debug)]
-pub struct Exchange {
+pub struct Answered {
     /// Number of the record in its journal, from 1.
     pub record: u64,
     /// The farm, as sent.
@@ -54,9 +54,9 @@ pub struct Exchange {
     pub reply: Vec<u8>,
 }
 
-impl Exchange {
+impl Answered {
     /// The exchanges that a call stands for, of which this has the frame and the answer.
-    pub fn by(self, sending: Sending) -> Vec<Exchange> {
+    pub fn by(self, sending: Sending) -> Vec<Answered> {
         match (sending, self.number) {
             (Sending::Merged, 0) => self.parted().into(),
             _ => vec![self],
@@ -64,14 +64,13 @@ impl Exchange {
     }
 
     /// The write of a merged call that was done, and its fetch.
-    fn parted(self) -> [Exchange; 2] {
+    fn parted(self) -> [Answered; 2] {
         let acknowledgement = vec![WRITE, 0, INDEX, self.frame[3]];
-        let fetch = Exchange { frame: FETCH.to_vec(), stored: 0, ..self.clone() };
-        [Exchange { reply: acknowledgement, ..self }, fetch]
+        let fetch = Answered { frame: FETCH.to_vec(), stored: 0, ..self.clone() };
+        [Answered { reply: acknowledgement, ..self }, fetch]
     }
 }
 
-const WRITE: u8 = 0x5F;
 const INDEX: u8 = 47;
 /// PROFIdrive's parameter access, and the index of frames that have none.
 const PARAMETER_ACCESS: u16 = 0xB02F;
@@ -112,10 +111,10 @@ impl Access<'_> {
 }
 
 /// Status, length and data of the response that stands for an answer.
-fn answer<'a>(exchange: &'a Exchange, access: &Access) -> ([u8; 4], u32, &'a [u8]) {
-    let number = exchange.number;
+fn answer<'a>(answered: &'a Answered, access: &Access) -> ([u8; 4], u32, &'a [u8]) {
+    let number = answered.number;
     let [function, decode, code] = access.operation.failed;
-    match exchange.reply.as_slice() {
+    match answered.reply.as_slice() {
         [_, _, _, length, block @ ..] if number == 0 => ([0; 4], u32::from(*length), block),
         [function, decode, code, ..] => ([*function, *decode, *code, number], 0, &[]),
         _ => ([function, decode, code, number], 0, &[]),
@@ -123,16 +122,16 @@ fn answer<'a>(exchange: &'a Exchange, access: &Access) -> ([u8; 4], u32, &'a [u8
 }
 
 /// The block header that all four kinds of record access share, with `tail` to its end.
-fn header(block: u16, exchange: &Exchange, access: &Access, length: u32, tail: &[u8]) -> Vec<u8> {
+fn header(block: u16, answered: &Answered, access: &Access, length: u32, tail: &[u8]) -> Vec<u8> {
     const LENGTH: usize = 64;
     let mut header = Vec::with_capacity(LENGTH);
     header.extend(block.to_be_bytes());
     header.extend((LENGTH as u16 - 4).to_be_bytes());
     header.extend([1, 0]);
-    header.extend((exchange.record as u16).to_be_bytes());
-    header.extend(uuid_of(AR, exchange.farm));
+    header.extend((answered.record as u16).to_be_bytes());
+    header.extend(uuid_of(AR, answered.farm));
     header.extend([0; 4]);
-    header.extend([0, access.slot, 0, exchange.farm, 0, 0]);
+    header.extend([0, access.slot, 0, answered.farm, 0, 0]);
     header.extend(access.index.to_be_bytes());
     header.extend(length.to_be_bytes());
     header.extend(tail);
@@ -141,24 +140,24 @@ fn header(block: u16, exchange: &Exchange, access: &Access, length: u32, tail: &
 }
 
 /// The request packet, from the DCE/RPC header on.
-fn request(exchange: &Exchange) -> Vec<u8> {
-    let access = Access::of(&exchange.frame);
-    let header = header(access.operation.request, exchange, &access, access.length, &[]);
+fn request(answered: &Answered) -> Vec<u8> {
+    let access = Access::of(&answered.frame);
+    let header = header(access.operation.request, answered, &access, access.length, &[]);
     let arguments = [&header, access.data].concat();
-    call(Call::Request, exchange, access.operation, ARGUMENTS_MOST.to_be_bytes(), &arguments)
+    call(Call::Request, answered, access.operation, ARGUMENTS_MOST.to_be_bytes(), &arguments)
 }
 
 /// The response packet, from the DCE/RPC header on.
-fn response(exchange: &Exchange) -> Vec<u8> {
-    let access = Access::of(&exchange.frame);
-    let (status, length, data) = answer(exchange, &access);
-    let [high, low] = exchange.stored.to_be_bytes();
+fn response(answered: &Answered) -> Vec<u8> {
+    let access = Access::of(&answered.frame);
+    let (status, length, data) = answer(answered, &access);
+    let [high, low] = answered.stored.to_be_bytes();
     let mut tail = vec![high, low, 0, 0];
     if access.operation.number == WRITING.number {
         tail.extend(status);
     }
-    let header = header(access.operation.response, exchange, &access, length, &tail);
-    call(Call::Response, exchange, access.operation, status, &[&header, data].concat())
+    let header = header(access.operation.response, answered, &access, length, &tail);
+    call(Call::Response, answered, access.operation, status, &[&header, data].concat())
 }
 
 /// Packet types of DCE/RPC.
@@ -182,16 +181,16 @@ fn uuid_of(mut uuid: [u8; 16], farm: u8) -> [u8; 16] {
 }
 
 /// A call of the device or its answer. `first` is the room for arguments, or the status.
-fn call(kind: Call, exchange: &Exchange, operation: &Operation, first: [u8; 4], arguments: &[u8]) -> Vec<u8> {
+fn call(kind: Call, answered: &Answered, operation: &Operation, first: [u8; 4], arguments: &[u8]) -> Vec<u8> {
     const NDR: usize = 20;
     let length = arguments.len() as u32;
     let flags = if kind == Call::Request { 0x20 } else { 0x0A };
     let mut packet = vec![4, kind as u8, flags, 0, 0, 0, 0, 0];
     packet.extend(BOX);
     packet.extend(DEVICE);
-    packet.extend(uuid_of(ACTIVITY, exchange.farm));
+    packet.extend(uuid_of(ACTIVITY, answered.farm));
     packet.extend([0, 0, 0, 1, 0, 0, 0, 1]);
-    packet.extend((exchange.record as u32).to_be_bytes());
+    packet.extend((answered.record as u32).to_be_bytes());
     packet.extend(operation.number.to_be_bytes());
     packet.extend([0xFF; 4]);
     packet.extend(((NDR + arguments.len()) as u16).to_be_bytes());
@@ -258,13 +257,13 @@ impl<W: Write> Capture<W> {
     }
 
     /// Adds the exchanges of a record, each as two packets.
-    pub fn add(&mut self, exchanges: &[Exchange]) -> io::Result<()> {
+    pub fn add(&mut self, exchanges: &[Answered]) -> io::Result<()> {
         const RECORD: u64 = 1000;
-        for (at, exchange) in (0..).zip(exchanges) {
-            let time = |packet: u64| RECORD * exchange.record + packet * RECORD / (2 * exchanges.len() as u64);
-            let farm = farm_end(exchange.farm);
-            self.packet(time(2 * at), &on_the_wire(&farm, &BOX_END, &request(exchange)))?;
-            self.packet(time(2 * at + 1), &on_the_wire(&BOX_END, &farm, &response(exchange)))?;
+        for (at, answered) in (0..).zip(exchanges) {
+            let time = |packet: u64| RECORD * answered.record + packet * RECORD / (2 * exchanges.len() as u64);
+            let farm = farm_end(answered.farm);
+            self.packet(time(2 * at), &on_the_wire(&farm, &BOX_END, &request(answered)))?;
+            self.packet(time(2 * at + 1), &on_the_wire(&BOX_END, &farm, &response(answered)))?;
         }
         Ok(())
     }
@@ -291,8 +290,8 @@ mod tests {
     const HEADERS: usize = 14 + 20 + 8;
     const BLOCK: usize = 80 + 20 + 64;
 
-    fn exchange(frame: &[u8], number: u8, reply: &[u8]) -> Exchange {
-        Exchange { record: 0x1_0005, farm: 2, frame: frame.to_vec(), number, stored: 3, reply: reply.to_vec() }
+    fn answered(frame: &[u8], number: u8, reply: &[u8]) -> Answered {
+        Answered { record: 0x1_0005, farm: 2, frame: frame.to_vec(), number, stored: 3, reply: reply.to_vec() }
     }
 
     #[test]
@@ -304,7 +303,7 @@ mod tests {
 
     #[test]
     fn headers_agree_with_what_follows() {
-        let packet = on_the_wire(&farm_end(2), &BOX_END, &request(&exchange(&[0x5F, 0, 47, 2, 7, 1], 10, &[])));
+        let packet = on_the_wire(&farm_end(2), &BOX_END, &request(&answered(&[0x5F, 0, 47, 2, 7, 1], 10, &[])));
         let number = |at: usize| usize::from(packet[at]) << 8 | usize::from(packet[at + 1]);
         assert_eq!((number(12), packet.len()), (0x0800, HEADERS + BLOCK + 2));
         assert_eq!((number(16), number(38)), (packet.len() - 14, packet.len() - 34));
@@ -329,8 +328,8 @@ mod tests {
     #[test]
     fn answers_and_refusals() {
         let told = |frame: &[u8], number, reply: &[u8]| {
-            let exchange = exchange(frame, number, reply);
-            let (status, length, data) = answer(&exchange, &Access::of(frame));
+            let answered = answered(frame, number, reply);
+            let (status, length, data) = answer(&answered, &Access::of(frame));
             (status, length, data.to_vec())
         };
         let (read, write) = ([0x5E, 0, 47, 240], [0x5F, 0, 47, 0]);
@@ -345,7 +344,7 @@ mod tests {
     fn a_capture_of_one_exchange() {
         let mut bytes = Vec::new();
         let mut capture = Capture::new(&mut bytes).unwrap();
-        capture.add(&[exchange(&[0x5E, 0, 47, 240], 8, &[0xDE, 0x80, 0xB5, 0])]).unwrap();
+        capture.add(&[answered(&[0x5E, 0, 47, 240], 8, &[0xDE, 0x80, 0xB5, 0])]).unwrap();
         capture.finish().unwrap();
         assert_eq!(bytes.len(), 24 + 2 * (16 + HEADERS + BLOCK));
         // Record 65541 is sent at 65.541 seconds.
@@ -363,7 +362,7 @@ mod tests {
     #[test]
     fn a_merged_call_is_two_exchanges() {
         let (write, block) = ([0x5F, 0, 47, 2, 7, 1], [0x5E, 0, 47, 4, 7, 2, 1, 1]);
-        let parts = exchange(&write, 0, &block).by(Sending::Merged);
+        let parts = answered(&write, 0, &block).by(Sending::Merged);
         let told: Vec<_> = parts.iter().map(|it| (it.frame.as_slice(), it.reply.as_slice(), it.stored)).collect();
         assert_eq!(told, [(&write[..], &[0x5F, 0, 47, 2][..], 3), (&[0x5E, 0, 47, 0xF0], &block, 0)]);
         assert!(parts.iter().all(|it| (it.record, it.farm, it.number) == (0x1_0005, 2, 0)));
@@ -377,7 +376,7 @@ mod tests {
     #[test]
     fn what_is_not_merged_or_not_done_is_one_exchange() {
         let one = |frame: &[u8], number, reply: &[u8], sending| {
-            let parts = exchange(frame, number, reply).by(sending);
+            let parts = answered(frame, number, reply).by(sending);
             let [part] = parts.as_slice() else { panic!("{parts:?}") };
             assert_eq!((part.frame.as_slice(), part.number, part.reply.as_slice()), (frame, number, reply));
         };

@@ -5,6 +5,7 @@ use crate::meaning::{decode, encode, PART, STATION};
 use crate::sending::{in_turn, Sending};
 use crate::words::Inputs;
 use std::fmt::{self, Display, Formatter};
+use std::ops::Range;
 use twin::{Axis, Cycled, Framed, Station, AXES};
 
 /// Bytes before and after the lent station, and after the lent reply, that no call may touch.
@@ -126,7 +127,7 @@ impl Pair {
         part_of(&self.memory, index)
     }
 
-    /// Our part before the last call.
+    /// Our part before the last call, where that came to a difference; else as it is.
     pub fn part_before(&self, index: usize) -> &[u8; PART] {
         part_of(&self.before, index)
     }
@@ -148,6 +149,27 @@ impl Pair {
 
     /// Makes the call of both, our station being lent as so many bytes, and compares answer, reply and memory.
     pub fn call(&mut self, call: &Call, bytes: usize, pattern: u8) -> Result<Answer, Difference> {
+        let answer = self.compared(call, bytes, pattern)?;
+        self.keep(call, answer.number());
+        Ok(answer)
+    }
+
+    /// Makes the call in the same way, and compares a merged one also with the library's own frames in turn, made before
+    /// on a copy of our memory.
+    pub fn call_and_in_turn(&mut self, call: &Call, bytes: usize, pattern: u8) -> Result<Answer, Difference> {
+        let Call::Frame(farm, Sending::Merged, frame, lent) = call else { return self.call(call, bytes, pattern) };
+        let (mut memory, mut reply) = (self.memory.clone(), vec![pattern; self.ours_reply.len()]);
+        let framed = in_turn(&mut memory[GUARD..GUARD + bytes], *farm, frame, &mut reply[..*lent]);
+        let answer = self.compared(call, bytes, pattern)?;
+        same_answer("answer, and that of the two calls in turn", &answer, &Answer::framed(framed))?;
+        same_bytes("reply memory, and that of the two calls in turn", &self.ours_reply, &reply)?;
+        same_bytes("memory, and that after the two calls in turn", &self.memory, &memory)?;
+        self.keep(call, answer.number());
+        Ok(answer)
+    }
+
+    /// Makes the call of both and compares; what was before it still stands, to be told beside a difference.
+    fn compared(&mut self, call: &Call, bytes: usize, pattern: u8) -> Result<Answer, Difference> {
         let twin = self.call_twin(call, bytes, pattern);
         let ours = self.call_ours(call, bytes, pattern);
         same_answer("answer", &ours, &twin)?;
@@ -158,19 +180,6 @@ impl Pair {
         }
         self.compare_rest(call, ours.number())?;
         Ok(ours)
-    }
-
-    /// Makes the call in the same way, and compares a merged one also with the library's own frames in turn, made before
-    /// on a copy of our memory.
-    pub fn call_and_in_turn(&mut self, call: &Call, bytes: usize, pattern: u8) -> Result<Answer, Difference> {
-        let Call::Frame(farm, Sending::Merged, frame, lent) = call else { return self.call(call, bytes, pattern) };
-        let (mut memory, mut reply) = (self.memory.clone(), vec![pattern; self.ours_reply.len()]);
-        let framed = in_turn(&mut memory[GUARD..GUARD + bytes], *farm, frame, &mut reply[..*lent]);
-        let answer = self.call(call, bytes, pattern)?;
-        same_answer("answer, and that of the two calls in turn", &answer, &Answer::framed(framed))?;
-        same_bytes("reply memory, and that of the two calls in turn", &self.ours_reply, &reply)?;
-        same_bytes("memory, and that after the two calls in turn", &self.memory, &memory)?;
-        Ok(answer)
     }
 
     fn call_ours(&mut self, call: &Call, bytes: usize, pattern: u8) -> Answer {
@@ -235,17 +244,26 @@ impl Pair {
         (0..AXES).try_for_each(|index| self.compare_meaning(index))
     }
 
-    /// All but what the call may change is as it was; then it all becomes what was.
-    fn compare_rest(&mut self, call: &Call, number: u8) -> Result<(), Difference> {
-        let changed = match (call, call.owner()) {
-            (Call::Fresh, _) if number == 0 => GUARD..GUARD + STATION,
-            (_, Some(owner)) => GUARD + owner * PART..GUARD + (owner + 1) * PART,
-            _ => 0..0,
-        };
-        same_bytes("memory before the part", &self.memory[..changed.start], &self.before[..changed.start])?;
-        same_bytes("memory after the part", &self.memory[changed.end..], &self.before[changed.end..])?;
-        self.before[changed.clone()].copy_from_slice(&self.memory[changed]);
-        Ok(())
+    /// All but what the call may change is as it was.
+    fn compare_rest(&self, call: &Call, number: u8) -> Result<(), Difference> {
+        let own = own(call, number);
+        same_bytes("memory before the part", &self.memory[..own.start], &self.before[..own.start])?;
+        same_bytes("memory after the part", &self.memory[own.end..], &self.before[own.end..])
+    }
+
+    /// What the call may have changed becomes what was, for the next.
+    fn keep(&mut self, call: &Call, number: u8) {
+        let own = own(call, number);
+        self.before[own.clone()].copy_from_slice(&self.memory[own]);
+    }
+}
+
+/// What of the memory is the call's to change.
+fn own(call: &Call, number: u8) -> Range<usize> {
+    match (call, call.owner()) {
+        (Call::Fresh, _) if number == 0 => GUARD..GUARD + STATION,
+        (_, Some(owner)) => GUARD + owner * PART..GUARD + (owner + 1) * PART,
+        _ => 0..0,
     }
 }
 

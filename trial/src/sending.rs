@@ -1,4 +1,4 @@
-//! The two calls that take a frame of a farm, and the one by the other in turn.
+//! The two calls that take a frame of a farm, and the merged call made of frames in turn.
 
 use crate::face::{self, Framed};
 use std::fmt::{self, Display, Formatter};
@@ -6,6 +6,8 @@ use twin::Station;
 
 /// Function byte of a read.
 pub const READ: u8 = 0x5E;
+/// Function byte of a write.
+pub const WRITE: u8 = 0x5F;
 /// The read that fetches any response.
 pub const FETCH: [u8; 4] = [READ, 0, 47, 240];
 

@@ -1,7 +1,7 @@
 //! What a run of calls has reached.
 
 use crate::blocks::Kind;
-use crate::counts::{named, unmet, Counts, Worked};
+use crate::counts::{named, names, place, unmet, Counts, Worked};
 use crate::fills::Fills;
 use crate::merged::Merged;
 use crate::sending::Sending;
@@ -64,8 +64,9 @@ pub struct Tally {
     pub calls: u64,
     fresh: u64,
     cycles: u64,
-    /// By how they were sent.
-    frames: [[u64; KINDS.len()]; 2],
+    /// By kind, those sent alone and those of merged calls.
+    alone: [u64; KINDS.len()],
+    in_merged: [u64; KINDS.len()],
     settings: [u64; SETTINGS.len()],
     cycle_numbers: Counts,
     frame_numbers: Counts,
@@ -84,7 +85,7 @@ impl Tally {
     /// A call in this setting.
     pub fn setting(&mut self, setting: Setting) {
         self.calls += 1;
-        self.settings[setting as usize] += 1;
+        self.settings[place(setting, &SETTINGS)] += 1;
     }
 
     /// A fresh station was asked for.
@@ -123,7 +124,11 @@ impl Tally {
 
     /// A frame of this kind was sent.
     pub fn sent(&mut self, sending: Sending, kind: Kind) {
-        self.frames[sending as usize][kind as usize] += 1;
+        let kinds = match sending {
+            Sending::Alone => &mut self.alone,
+            Sending::Merged => &mut self.in_merged,
+        };
+        kinds[place(kind, &KINDS)] += 1;
     }
 
     /// A frame sent alone was answered with this number.
@@ -138,12 +143,12 @@ impl Tally {
         missing.extend(self.frame_numbers.unmet(&FRAME_NUMBERS).map(|number| format!("frame with number {number}")));
         missing.extend(self.worked.missing());
         for (from, tos) in STEPS {
-            let unmet = |to: &&State| self.steps[from as usize][**to as usize] == 0;
-            missing.extend(tos.iter().filter(unmet).map(|to| format!("{from:?} to {to:?}")));
-            missing.extend([&from].into_iter().filter(unmet).map(|kept| format!("{kept:?} kept")));
+            let never = |to: State| self.steps[from as usize][to as usize] == 0;
+            missing.extend(tos.iter().filter(|to| never(**to)).map(|to| format!("{from:?} to {to:?}")));
+            missing.extend(never(from).then(|| format!("{from:?} kept")));
         }
         missing.extend(unmet(&self.events, &EVENTS).map(String::from));
-        missing.extend(unmet(&self.settings, &SETTINGS.map(|(_, name)| name)).map(|name| format!("memory {name}")));
+        missing.extend(unmet(&self.settings, &names(&SETTINGS)).map(|name| format!("memory {name}")));
         missing.extend(self.fills.missing());
         missing.extend(self.merged.missing());
         missing
@@ -152,9 +157,9 @@ impl Tally {
 
 impl Display for Tally {
     fn fmt(&self, f: &mut Formatter) -> fmt::Result {
-        let [alone, merged] = self.frames.map(|kinds| named(&kinds, &KINDS.map(|(_, name)| name)));
+        let [alone, merged] = [self.alone, self.in_merged].map(|kinds| named(&kinds, &names(&KINDS)));
         writeln!(f, "calls      cycle {}, frame: {alone}, merged call: {merged}, fresh {}", self.cycles, self.fresh)?;
-        writeln!(f, "memory     {}", named(&self.settings, &SETTINGS.map(|(_, name)| name)))?;
+        writeln!(f, "memory     {}", named(&self.settings, &names(&SETTINGS)))?;
         writeln!(f, "cycles     by number (0 accepted): {}", self.cycle_numbers.list(&CYCLE_NUMBERS))?;
         writeln!(f, "frames     by number (0 accepted): {}", self.frame_numbers.list(&FRAME_NUMBERS))?;
         let reached = |times: &[u64; 6]| {

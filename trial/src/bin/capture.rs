@@ -101,7 +101,7 @@ fn play(
         let exchanges = journal::play(&mut station, record, played.records);
         played.cycles += u64::from(exchanges.is_empty());
         played.exchanges += exchanges.len() as u64;
-        played.refused += exchanges.iter().filter(|exchange| exchange.number != 0).count() as u64;
+        played.refused += exchanges.iter().filter(|answered| answered.number != 0).count() as u64;
         capture.add(&exchanges).map_err(wrong(out))?;
         next = journal::next(input).map_err(wrong(journal))?;
     }

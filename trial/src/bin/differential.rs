@@ -24,7 +24,7 @@ const ALL_PARTS: u64 = 1000;
 /// A run of so many calls that misses something the tally asks for has failed too.
 const REACHES_ALL: u64 = 200_000;
 /// One in so many merged calls is also made as the two calls that it stands for.
-const IN_TURN: usize = 4;
+const ONE_IN_TURN_OF: usize = 4;
 /// Farms, axes and thus owners that do not exist, some of which a silent conversion would make exist.
 const NOBODY: [u32; 10] = [0, 17, 18, 255, 256, 257, 272, 0x0001_0001, 0x8000_0001, u32::MAX];
 
@@ -245,7 +245,7 @@ impl Trial {
     fn call(&mut self, call: Call, bytes: usize, setting: Setting, kind: Kind) -> Result<(), String> {
         let before = call.owner().map(|owner| self.pair.axis(owner).clone());
         let pattern = self.random.byte();
-        let in_turn = matches!(call, Call::Frame(_, Sending::Merged, ..)) && self.random.one_in(IN_TURN);
+        let in_turn = matches!(call, Call::Frame(_, Sending::Merged, ..)) && self.random.one_in(ONE_IN_TURN_OF);
         let made = if in_turn {
             self.pair.call_and_in_turn(&call, bytes, pattern)
         } else {
@@ -258,25 +258,25 @@ impl Trial {
     }
 
     fn count(&mut self, done: &Done) {
-        let owner = done.call.owner().zip(done.before.as_ref());
-        if let (2, Some((owner, before))) = (done.answer.number(), owner) {
+        let sender = done.call.owner().zip(done.before.as_ref());
+        if let (2, Some((owner, before))) = (done.answer.number(), sender) {
             self.tally.fills.ill_formed(before, owner as u8 + 1);
         }
         match (&done.call, done.answer) {
             (Call::Cycle(_, inputs), Answer::Cycle(cycled)) => {
                 self.tally.cycle(cycled.number);
-                if let (0, Some((owner, before))) = (cycled.number, owner) {
+                if let (0, Some((owner, before))) = (cycled.number, sender) {
                     self.tally.step(before, self.pair.axis(owner), inputs);
                 }
             }
             (Call::Frame(_, sending, frame, _), Answer::Frame(framed)) => {
                 self.tally.sent(*sending, done.kind);
                 match sending {
-                    Sending::Alone => self.count_frame(owner, frame, framed),
+                    Sending::Alone => self.count_frame(sender, frame, framed),
                     Sending::Merged => {
                         let (bytes, in_turn) = (done.bytes, done.in_turn);
                         let reply = &self.pair.reply()[..framed.length.into()];
-                        self.tally.merged.count(&Made { sender: owner, bytes, frame, framed, reply, in_turn });
+                        self.tally.merged.count(&Made { sender, bytes, frame, framed, reply, in_turn });
                     }
                 }
             }

@@ -75,16 +75,7 @@ impl Bench {
                 self.untouched(&before, number, *farm)?;
                 self.same_in_turn(before, step)
             }
-            Step::Fresh { number } => {
-                let got = face::fresh(&mut self.memory[..self.lent]);
-                if got != *number {
-                    return Err((number.to_string(), got.to_string()));
-                }
-                match got {
-                    0 => self.same(&before, self.size..self.memory.len()),
-                    _ => self.same(&before, 0..self.memory.len()),
-                }
-            }
+            Step::Fresh { number } => self.fresh(&before, *number),
             Step::Reply { size } => {
                 self.reply_size = *size;
                 Ok(())
@@ -100,6 +91,14 @@ impl Bench {
             }
             Step::Loop { .. } => Ok(()),
         }
+    }
+
+    /// Asks for a fresh station, which leaves what stands behind it, and all where it is refused.
+    fn fresh(&mut self, before: &[u8], wanted: u8) -> Result<(), (String, String)> {
+        let got = face::fresh(&mut self.memory[..self.lent]);
+        compare(&wanted, &got)?;
+        let start = if got == 0 { self.size } else { 0 };
+        self.same(before, start..self.memory.len())
     }
 
     /// Sends a frame with a station and a reply memory: what is wrong with its answer or its reply; else its number.

@@ -49,9 +49,9 @@ use trial::cases::{logical_lines, read_bytes, read_cases, Line, Step};
 use trial::dissected::{self, fields_of_request, seen_in_request, seen_in_response, Field, FAULT, PROFIDRIVE};
 use trial::journal::{self, Next, Record};
 use trial::layout::{Block, Values, BYTE_FORMATS};
-use trial::packets::{Capture, Exchange};
+use trial::packets::{Answered, Capture};
 use trial::random::Random;
-use trial::sending::{Sending, FETCH, READ};
+use trial::sending::{Sending, FETCH, READ, WRITE};
 use trial::{blocks, parts, words};
 use twin::{Address, Station, AXES, REPLY_MIN};
 
@@ -126,10 +126,10 @@ impl Answer {
     /// The answer that stands in a reply.
     fn of(number: u8, stored: u16, reply: &[u8]) -> Answer {
         match reply {
-            [0x5E, 0, 47, length, block @ ..] if number == 0 => {
+            [READ, 0, 47, length, block @ ..] if number == 0 => {
                 Answer { number, stored, length: u32::from(*length), block: Block::of_response(block) }
             }
-            [0x5F, 0, 47, length] if number == 0 => Answer { number, stored, length: u32::from(*length), block: None },
+            [WRITE, 0, 47, length] if number == 0 => Answer { number, stored, length: u32::from(*length), block: None },
             _ => Answer { number, stored, length: 0, block: None },
         }
     }
@@ -160,26 +160,26 @@ impl Answer {
 }
 
 /// An exchange, and what its block and its answer were meant to be.
-struct Spoken {
-    exchange: Exchange,
+struct Meaning {
+    answered: Answered,
     block: Option<Block>,
     answer: Answer,
 }
 
-impl Spoken {
+impl Meaning {
     /// A frame that comes as bytes.
-    fn of_bytes((exchange, answer): (Exchange, Answer)) -> Spoken {
-        let block = match exchange.frame.as_slice() {
-            [0x5F, _, 47, length, block @ ..] if usize::from(*length) == block.len() => Block::of_request(block),
+    fn of_bytes((answered, answer): (Answered, Answer)) -> Meaning {
+        let block = match answered.frame.as_slice() {
+            [WRITE, _, 47, length, block @ ..] if usize::from(*length) == block.len() => Block::of_request(block),
             _ => None,
         };
-        Spoken { exchange, block, answer }
+        Meaning { answered, block, answer }
     }
 
     /// A frame with the answer that an example has for it.
-    fn of_example(exchange: Exchange) -> Spoken {
-        let answer = Answer::of(exchange.number, exchange.stored, &exchange.reply);
-        Spoken::of_bytes((exchange, answer))
+    fn of_example(answered: Answered) -> Meaning {
+        let answer = Answer::of(answered.number, answered.stored, &answered.reply);
+        Meaning::of_bytes((answered, answer))
     }
 }
 
@@ -215,24 +215,24 @@ impl Bench {
     }
 
     /// Adds the exchanges of a record.
-    fn add(&mut self, what: &str, spoken: Vec<Spoken>) -> Result<(), String> {
+    fn add(&mut self, what: &str, meanings: Vec<Meaning>) -> Result<(), String> {
         self.records += 1;
         let mut exchanges = Vec::new();
-        for Spoken { exchange, block, answer } in spoken {
-            let exchange = Exchange { record: self.records, ..exchange };
-            let what = format!("{what}, farm {}", exchange.farm);
-            let request = request_meant(&what, &exchange, block.as_ref());
-            let response = response_meant(&what, &exchange, &answer);
+        for Meaning { answered, block, answer } in meanings {
+            let answered = Answered { record: self.records, ..answered };
+            let what = format!("{what}, farm {}", answered.farm);
+            let request = request_meant(&what, &answered, block.as_ref());
+            let response = response_meant(&what, &answered, &answer);
             self.requests += usize::from(block.is_some() && request.until == Until::End);
             self.responses += usize::from(answer.block.is_some() && response.until == Until::End);
             self.meant.extend([request, response]);
-            exchanges.push(exchange);
+            exchanges.push(answered);
         }
         self.capture.add(&exchanges).map_err(|error| error.to_string())
     }
 
     /// Plays a record on the library and on the twin: the library's exchanges and the twin's answers.
-    fn play(&mut self, record: Record) -> Vec<(Exchange, Answer)> {
+    fn play(&mut self, record: Record) -> Vec<(Answered, Answer)> {
         let answers = match &record {
             Record::Cycle(axis, i) => {
                 self.twin.cycle((*axis).into(), i.flags, i.stw1, i.nsoll, i.nist, i.fault);
@@ -240,7 +240,9 @@ impl Bench {
             }
             Record::Frame(farm, sending, frame) => self.twins_answers(*farm, *sending, frame),
         };
-        journal::play(&mut self.library, record, 0).into_iter().zip(answers).collect()
+        let exchanges = journal::play(&mut self.library, record, 0);
+        assert_eq!(exchanges.len(), answers.len(), "an answer of the twin for each of the library");
+        exchanges.into_iter().zip(answers).collect()
     }
 
     /// The twin's answer to a frame; to a merged call those to its write and, where that is done, to its fetch.
@@ -264,7 +266,7 @@ impl Bench {
         (self.library, self.twin) = (journal::station(), Station::fresh());
         while let Next::Record(record) = journal::next(&mut bytes).map_err(|error| error.to_string())? {
             let played = self.play(record);
-            self.add(what, played.into_iter().map(Spoken::of_bytes).collect())?;
+            self.add(what, played.into_iter().map(Meaning::of_bytes).collect())?;
         }
         Ok(())
     }
@@ -305,8 +307,8 @@ impl Bench {
                         continue;
                     };
                     let (number, stored, reply) = (wanted.number, wanted.stored, wanted.reply.clone());
-                    let exchange = Exchange { record: 0, farm, frame: frame.clone(), number, stored, reply };
-                    self.add(case, exchange.by(*sending).into_iter().map(Spoken::of_example).collect())?;
+                    let answered = Answered { record: 0, farm, frame: frame.clone(), number, stored, reply };
+                    self.add(case, answered.by(*sending).into_iter().map(Meaning::of_example).collect())?;
                 }
                 _ => {}
             }
@@ -326,11 +328,11 @@ impl Bench {
             [(Sending::Alone, write.clone()), (Sending::Alone, FETCH.to_vec()), (Sending::Merged, write)]
         {
             let played = self.play(Record::Frame(farm, sending, frame)).into_iter();
-            let spoken = played.map(|(exchange, answer)| {
-                let block = (exchange.frame[0] != READ).then(|| block.clone());
-                Spoken { exchange, block, answer }
+            let meanings = played.map(|(answered, answer)| {
+                let block = (answered.frame[0] != READ).then(|| block.clone());
+                Meaning { answered, block, answer }
             });
-            self.add(&format!("{what}, {sending}"), spoken.collect())?;
+            self.add(&format!("{what}, {sending}"), meanings.collect())?;
         }
         Ok(())
     }
@@ -436,10 +438,10 @@ fn planted(path: PathBuf) -> Result<bool, String> {
         let bytes = block.bytes();
         for at in 0..seen_in_request(block).bytes {
             let frame = blocks::framed(&altered(&bytes, at));
-            let reply = vec![0x5F, 0, 47, bytes.len() as u8];
+            let reply = vec![WRITE, 0, 47, bytes.len() as u8];
             let answer = Answer::of(0, 0, &reply);
-            let exchange = Exchange { record: 0, farm: 1, frame, number: 0, stored: 0, reply };
-            bench.add(&format!("byte {at} altered"), vec![Spoken { exchange, block: Some(block.clone()), answer }])?;
+            let answered = Answered { record: 0, farm: 1, frame, number: 0, stored: 0, reply };
+            bench.add(&format!("byte {at} altered"), vec![Meaning { answered, block: Some(block.clone()), answer }])?;
         }
     }
     for block in responses_of_every_kind() {
@@ -473,11 +475,11 @@ fn altered(bytes: &[u8], at: usize) -> Vec<u8> {
 }
 
 /// A fetch that is answered with these bytes, where this block was meant.
-fn fetched(block: &Block, bytes: &[u8]) -> Spoken {
-    let reply = [&[0x5E, 0, 47, bytes.len() as u8], bytes].concat();
+fn fetched(block: &Block, bytes: &[u8]) -> Meaning {
+    let reply = [&[READ, 0, 47, bytes.len() as u8], bytes].concat();
     let answer = Answer { number: 0, stored: 0, length: bytes.len() as u32, block: Some(block.clone()) };
-    let exchange = Exchange { record: 0, farm: 1, frame: FETCH.to_vec(), number: 0, stored: 0, reply };
-    Spoken { exchange, block: None, answer }
+    let answered = Answered { record: 0, farm: 1, frame: FETCH.to_vec(), number: 0, stored: 0, reply };
+    Meaning { answered, block: None, answer }
 }
 
 // ---- Blocks ----
@@ -577,14 +579,14 @@ fn any_byte(byte: u8) -> Block {
 // ---- What packets mean ----
 
 /// The fields of a packet up to its record's data, or up to the status that ends the header of a write's answer.
-fn header_meant(exchange: &Exchange, from_farm: bool, status: &[Field], length: u32, stored: &[Field]) -> Vec<Field> {
-    let farm = u32::from(exchange.farm);
-    let (slot, index) = match exchange.frame.as_slice() {
-        [0x5E | 0x5F, slot, 47, _, ..] => (*slot, 0xB02F),
-        [0x5E | 0x5F, slot, index, _, ..] => (*slot, u32::from(*index)),
+fn header_meant(answered: &Answered, from_farm: bool, status: &[Field], length: u32, stored: &[Field]) -> Vec<Field> {
+    let farm = u32::from(answered.farm);
+    let (slot, index) = match answered.frame.as_slice() {
+        [READ | WRITE, slot, 47, _, ..] => (*slot, 0xB02F),
+        [READ | WRITE, slot, index, _, ..] => (*slot, u32::from(*index)),
         _ => (0, 0x7FFF),
     };
-    let reads = reads(&exchange.frame);
+    let reads = reads(&answered.frame);
     let (farm_address, box_address) = (0x0A2F_0100 + farm, 0x0A2F_0001);
     let (from, to) = if from_farm { (farm_address, box_address) } else { (box_address, farm_address) };
     let block_type = if from_farm { 0x0008 } else { 0x8008 } + u32::from(reads);
@@ -593,13 +595,13 @@ fn header_meant(exchange: &Exchange, from_farm: bool, status: &[Field], length: 
         ("ip.src", from),
         ("ip.dst", to),
         ("udp.checksum.status", 1),
-        ("dcerpc.dg_seqnum", exchange.record as u32),
+        ("dcerpc.dg_seqnum", answered.record as u32),
         ("pn_io.opnum", if reads { 2 } else { 3 }),
     ];
     fields.extend(status);
     fields.extend([
         ("pn_io.block_type", block_type),
-        ("pn_io.seq_number", exchange.record as u32 & 0xFFFF),
+        ("pn_io.seq_number", answered.record as u32 & 0xFFFF),
         ("pn_io.slot_nr", slot.into()),
         ("pn_io.subslot_nr", farm),
         ("pn_io.index", index),
@@ -611,17 +613,17 @@ fn header_meant(exchange: &Exchange, from_farm: bool, status: &[Field], length: 
 
 /// Whether the frame is a read; what is neither stands as a write.
 fn reads(frame: &[u8]) -> bool {
-    frame.len() >= 4 && frame[0] == 0x5E
+    frame.len() >= 4 && frame[0] == READ
 }
 
-fn request_meant(what: &str, exchange: &Exchange, block: Option<&Block>) -> Meant {
-    let (length, meant) = match exchange.frame.as_slice() {
-        [0x5E, _, _, length, data @ ..] => (usize::from(*length), data.is_empty()),
-        [0x5F, _, 47, length, ..] => (usize::from(*length), block.is_some()),
-        [0x5F, _, _, length, data @ ..] => (usize::from(*length), usize::from(*length) == data.len()),
+fn request_meant(what: &str, answered: &Answered, block: Option<&Block>) -> Meant {
+    let (length, meant) = match answered.frame.as_slice() {
+        [READ, _, _, length, data @ ..] => (usize::from(*length), data.is_empty()),
+        [WRITE, _, 47, length, ..] => (usize::from(*length), block.is_some()),
+        [WRITE, _, _, length, data @ ..] => (usize::from(*length), usize::from(*length) == data.len()),
         frame => (frame.len(), true),
     };
-    let mut fields = header_meant(exchange, true, &[], length as u32, &[]);
+    let mut fields = header_meant(answered, true, &[], length as u32, &[]);
     let mut until = if meant { Until::End } else { Until::Header };
     if let Some(seen) = block.map(seen_in_request) {
         fields.extend(seen.fields);
@@ -630,11 +632,11 @@ fn request_meant(what: &str, exchange: &Exchange, block: Option<&Block>) -> Mean
     Meant { what: format!("{what}, request"), fields, until }
 }
 
-fn response_meant(what: &str, exchange: &Exchange, answer: &Answer) -> Meant {
-    let reads = reads(&exchange.frame);
+fn response_meant(what: &str, answered: &Answered, answer: &Answer) -> Meant {
+    let reads = reads(&answered.frame);
     let status = answer.status(reads);
     let stored = [("pn_io.add_val1", answer.stored.into())];
-    let mut fields = header_meant(exchange, false, &status, answer.length, &stored);
+    let mut fields = header_meant(answered, false, &status, answer.length, &stored);
     if !reads {
         fields.extend(status);
     }
