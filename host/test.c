@@ -1,4 +1,5 @@
-/* A test of the station's C face against documents 01 and 02. Every expected byte was worked out from them by hand.
+/* A test of the station's C face against documents 01 and 02. Every expected byte was worked out from them by hand, but
+ * for the replies of merged calls beside an accepted write: these come from the write and the fetch themselves.
  *
  * Each call is made on memories of its own with guard bytes of a known pattern on both sides, and everything is checked
  * after it: the answer, the reply, the reply memory past it, the frame, the station and all guards. A refused call must
@@ -206,7 +207,7 @@ static const char read_930[] = "5F 00 2F 0A  07 01 01 01  10 01 03 A2 00 00";
 static const char response_930[] = "5E 00 2F 08  07 01 01 01  42 01 00 01";
 /* Farm 1 reads all four marks. */
 static const char read_marks[] = "5F 00 2F 0A  08 01 01 01  10 04 75 31 00 00";
-/* Farm 2 writes its mark 2000. */
+/* Farm 2 writes its mark 0, to 2000. */
 static const char mark_of_farm_2[] = "5F 00 2F 0E  07 02 02 01  10 01 75 31 00 00  42 01 07 D0";
 static const char fetch[] = "5E 00 2F F0";
 
@@ -331,20 +332,25 @@ static struct bytes written_and_fetched(const struct sending *s)
     return reply;
 }
 
-/* By the merged call, as the names of its checks say. */
-static void send_at_once(const char *name, struct sending s)
+/* The names of the checks say how it is sent. */
+static void send_told(frame_call *call, const char *how, const char *name, struct sending s)
 {
-    char title[192];
+    char title[224];
 
-    snprintf(title, sizeof title, "merged call, %s", name);
-    send_by(llinkhiro_exchange, title, s);
+    snprintf(title, sizeof title, "%s, %s", how, name);
+    send_by(call, title, s);
+}
+
+static void exchange_sent(const char *name, struct sending s)
+{
+    send_told(llinkhiro_exchange, "merged call", name, s);
 }
 
 /* The merged call of a frame, from its answer by llinkhiro_frame. R-3: a read is 4, after 1 to 3; a refused write is
  * the write alone; an accepted one is the write and a fetch in turn. */
-static void send_merged(const char *name, struct sending s)
+static void exchange_too(const char *name, struct sending s)
 {
-    struct memory present = station, in_turn = station_again(station.len), at_once = station_again(station.len);
+    struct memory present = station, in_turn = station_again(station.len), merged = station_again(station.len);
 
     if (s.frame.len > 0 && s.frame.at[0] == 0x5E && (s.number == 0 || s.number > 4)) {
         s.number = 4;
@@ -353,22 +359,22 @@ static void send_merged(const char *name, struct sending s)
     station = in_turn;
     if (s.number == 0)
         s.reply = written_and_fetched(&s);
-    station = at_once;
-    send_at_once(name, s);
+    station = merged;
+    exchange_sent(name, s);
     if (s.number == 0) {
-        check_bytes(name, "station after the merged call", start(&at_once), start(&in_turn), station.len);
-        send_by(llinkhiro_frame, "none waits after a merged call",
-                (struct sending){ s.farm, hex(fetch), 0, REPLY, 8, 0, hex("DE 80 B5 00") });
+        check_bytes(name, "station after the merged call", start(&merged), start(&in_turn), station.len);
+        send_told(llinkhiro_frame, "8: none waits after the merged call", name,
+                  (struct sending){ s.farm, hex(fetch), 0, REPLY, 8, 0, hex("DE 80 B5 00") });
     }
     station = present;
     give_back(&in_turn);
-    give_back(&at_once);
+    give_back(&merged);
 }
 
 /* A frame by both calls: by the merged one on a copy of the station, by llinkhiro_frame on the station itself. */
 static void send(const char *name, struct sending s)
 {
-    send_merged(name, s);
+    exchange_too(name, s);
     send_by(llinkhiro_frame, name, s);
 }
 
@@ -383,7 +389,7 @@ static void frame(const char *name, uint32_t farm, const char *bytes, uint8_t nu
 static void exchange(const char *name, uint32_t farm, const char *bytes, uint8_t number, uint16_t stored,
                      const char *reply)
 {
-    send_at_once(name, (struct sending){ farm, hex(bytes), 0, REPLY, number, stored, hex(reply) });
+    exchange_sent(name, (struct sending){ farm, hex(bytes), 0, REPLY, number, stored, hex(reply) });
 }
 
 /* Another station memory in place of the present one: a fresh station's bytes, cut or followed by the pattern. */
@@ -867,22 +873,26 @@ static const char *const reads[] = {
     "5E 00 2F 0A  00 00 02 00  10 01 03 A2 00 00",
 };
 
-static void reads_at_once(void)
+static void read_exchanged(const char *read)
 {
     static const size_t lens[] = { 0, REPLY - 1, REPLY, REPLY + 1, 65536 };
 
-    for (size_t i = 0; i < sizeof reads / sizeof reads[0]; i++) {
-        for (size_t j = 0; j < sizeof lens / sizeof lens[0]; j++)
-            send_at_once(named("%s with %zu bytes for the reply", reads[i], lens[j]),
-                         (struct sending){ 1, hex(reads[i]), 0, lens[j], lens[j] < REPLY ? 3 : 4, 0, hex("") });
-        exchange(named("1: %s of farm 17", reads[i]), 17, reads[i], 1, 0, "");
-    }
+    for (size_t i = 0; i < sizeof lens / sizeof lens[0]; i++)
+        exchange_sent(named("%s with %zu bytes for the reply", read, lens[i]),
+                      (struct sending){ 1, hex(read), 0, lens[i], lens[i] < REPLY ? 3 : 4, 0, hex("") });
+    exchange(named("1: %s of farm 17", read), 17, read, 1, 0, "");
+}
+
+static void reads_exchanged(void)
+{
+    for (size_t i = 0; i < sizeof reads / sizeof reads[0]; i++)
+        read_exchanged(reads[i]);
 }
 
 /* Number 4 of the merged call for every read, after 1 to 3. */
 static void merged_reads(void)
 {
-    idle_and_waiting(reads_at_once);
+    idle_and_waiting(reads_exchanged);
     memset(part(1), 0, part_size());
     exchange("2: a read of a part all 00", 1, fetch, 2, 0, "");
 }
@@ -918,9 +928,6 @@ static void merged_waiting(void)
     fresh_station();
     frame("a write whose fetch is forgotten", 1, read_930, 0, 0, "5F 00 2F 0A");
     exchange("8: the same request", 1, read_930, 8, 0, "DF 80 B5 00");
-    exchange("8: a change", 1, write_marks, 8, 0, "DF 80 B5 00");
-    exchange("8: before 10", 1, "5F 00 2F 00", 8, 0, "DF 80 B5 00");
-    exchange("8: before 11", 1, "5F 00 2F 0A  07 01 02 01  10 01 03 A2 00 00", 8, 0, "DF 80 B5 00");
     exchange("7: a byte less", 1, "5F 00 2F 0A  07 01 01 01  10 01 03 A2 00", 7, 0, "DF 80 B1 00");
     exchange("4: the forgotten fetch", 1, fetch, 4, 0, "");
     exchange("farm 2 has none waiting", 2, mark_of_farm_2, 0, 1, "5E 00 2F 04  07 02 02 01");
@@ -1080,7 +1087,7 @@ static void full_reply(void)
     frame("9: wants 239 of 240", 1, "5E 00 2F EF", 9, 0, "DE 80 B7 00");
     exchange("8: 240 bytes wait", 1, read_930, 8, 0, "DF 80 B5 00");
     send("240 bytes fetched", (struct sending){ 1, hex(fetch), 0, REPLY, 0, 0, response });
-    send_at_once("240 bytes", (struct sending){ 1, request, 0, REPLY, 0, 0, response });
+    exchange_sent("240 bytes", (struct sending){ 1, request, 0, REPLY, 0, 0, response });
 }
 
 /* 39 parameters in 238 bytes, each I32 so that the response has 238 bytes too; 40 do not fit a length of 240. */

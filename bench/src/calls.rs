@@ -4,7 +4,7 @@ use crate::measure::{answers, run, started};
 use crate::outside::Started;
 use crate::rows::{in_one_call, in_two_calls, rows, Row, MERGED};
 use crate::sides::{Ours, Plain, Side, Twin};
-use crate::table::{least, less, line, saved, slope, Costs, SIDES};
+use crate::table::{least, less, line, saved, slope, Figures, SIDES};
 use std::error::Error;
 use std::io;
 use std::time::Instant;
@@ -19,12 +19,13 @@ const COUNTED_PASSES: usize = 50;
 /// A row with what a unit of it costs.
 struct Measured<'a> {
     row: &'a Row,
-    time: Costs,
-    count: Costs,
+    time: Figures,
+    count: Figures,
 }
 
-/// Measures every row and prints its line, then how the cost grows with the addresses and what the merged call saves.
-pub fn measure(counter: &str) -> Result<(), Box<dyn Error>> {
+/// Measures every row and prints its line, then how the cost grows with the addresses and what the merged call saves; where it
+/// costs more instead, that is the caller's to tell once the table is whole.
+pub fn measure(counter: &str) -> Result<Result<(), String>, Box<dyn Error>> {
     let rows = rows();
     for row in &rows {
         alike(row).map_err(|why| format!("{}: {why}", row.name))?;
@@ -32,32 +33,31 @@ pub fn measure(counter: &str) -> Result<(), Box<dyn Error>> {
     let mut measured = Vec::new();
     for (row, time) in rows.iter().zip(timed(&rows)) {
         let count = counted(counter, row)?;
-        line(&row.name, time, count);
+        line(&row.name, time.map(Some), count.map(Some));
         measured.push(Measured { row, time, count });
     }
     growth(&measured);
     let savings = MERGED.map(|what| saving(&measured, what));
-    Ok(savings.into_iter().collect::<Result<(), String>>()?)
+    Ok(savings.into_iter().collect())
 }
 
 fn growth(measured: &[Measured]) {
-    let points = |cost: fn(&Measured) -> Costs| -> Vec<(f64, Costs)> {
+    let points = |cost: fn(&Measured) -> Figures| -> Vec<(f64, Figures)> {
         measured.iter().filter_map(|one| Some((one.row.addresses? as f64, cost(one)))).collect()
     };
     line("each further address read", slope(&points(|one| one.time)), slope(&points(|one| one.count)));
 }
 
 /// What the merged call saves of the write and the fetch. To save less than nothing is a failure of ours, and so is a row that is
-/// missing or was not counted.
+/// missing.
 fn saving(measured: &[Measured], what: &str) -> Result<(), String> {
     let find = |name: String| measured.iter().find(|one| one.row.name == name).ok_or(format!("no row '{name}'"));
     let (two, one) = (find(in_two_calls(what))?, find(in_one_call(what))?);
-    let count = less(two.count, one.count);
-    saved(&format!("merging saves, {what}"), less(two.time, one.time), count);
+    let (time, count) = (less(two.time, one.time), less(two.count, one.count));
+    saved(&format!("merging saves, {what}"), time.map(Some), count.map(Some));
     match count[0] {
-        Some(saved) if saved >= 0.0 => Ok(()),
-        Some(saved) => Err(format!("{what}: our merged call takes {} instructions more than write and fetch", -saved)),
-        None => Err(format!("{what}: our instructions were not counted")),
+        ours if ours >= 0.0 => Ok(()),
+        ours => Err(format!("{what}: our merged call takes {} instructions more than write and fetch", -ours)),
     }
 }
 
@@ -84,11 +84,11 @@ struct Timed<'a> {
     row: &'a Row,
     sides: (Ours, Twin, Plain),
     passes: usize,
-    best: [f64; SIDES.len()],
+    best: Figures,
 }
 
 /// Each round takes every row and every side once, so that a slow spell of the machine falls on all of them.
-fn timed(rows: &[Row]) -> Vec<Costs> {
+fn timed(rows: &[Row]) -> Vec<Figures> {
     let mut all: Vec<Timed> = rows.iter().map(Timed::new).collect();
     for _ in 0..ROUNDS {
         all.iter_mut().for_each(Timed::round);
@@ -107,7 +107,7 @@ impl Timed<'_> {
     }
 
     /// Nanoseconds of a batch of each side.
-    fn batches(&mut self) -> [f64; SIDES.len()] {
+    fn batches(&mut self) -> Figures {
         let (ours, twin, plain) = &mut self.sides;
         let (row, passes) = (self.row, self.passes);
         [time(ours, row, passes), time(twin, row, passes), time(plain, row, passes)]
@@ -118,8 +118,8 @@ impl Timed<'_> {
         self.best = least(self.best, batches);
     }
 
-    fn costs(&self) -> Costs {
-        self.best.map(|nanoseconds| Some(nanoseconds / (self.passes * self.row.units) as f64))
+    fn costs(&self) -> Figures {
+        self.best.map(|nanoseconds| nanoseconds / (self.passes * self.row.units) as f64)
     }
 }
 
@@ -129,9 +129,9 @@ fn time<S: Side>(side: &mut S, row: &Row, passes: usize) -> f64 {
     begin.elapsed().as_nanos() as f64
 }
 
-fn counted(counter: &str, row: &Row) -> io::Result<Costs> {
+fn counted(counter: &str, row: &Row) -> io::Result<Figures> {
     let [ours, twin, plain] = SIDES.map(|side| instructions(counter, row, side));
-    Ok([Some(ours?), Some(twin?), Some(plain?)])
+    Ok([ours?, twin?, plain?])
 }
 
 /// Instructions of one unit of the row, by this program under a counter: what twice the passes take more.

@@ -54,6 +54,7 @@ fn bench(emulator: &str, counter: &str, journal: &str, jobs: &[Job]) -> Result<(
         println!("UNDER AN EMULATOR ({emulator}): the times are its own, and only their ratios speak.");
     }
     table::head();
-    calls::measure(counter)?;
-    jobs.iter().try_for_each(|job| journal::measure(emulator, counter, journal, job))
+    let merging = calls::measure(counter)?;
+    jobs.iter().try_for_each(|job| journal::measure(emulator, counter, journal, job))?;
+    Ok(merging?)
 }

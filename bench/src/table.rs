@@ -3,6 +3,9 @@
 /// The sides in the order of the columns.
 pub const SIDES: [&str; 3] = ["ours", "twin", "C"];
 
+/// What each side costs, where all of them have the row.
+pub type Figures = [f64; SIDES.len()];
+
 /// What each side costs, where that side has the row and it was measured.
 pub type Costs = [Option<f64>; SIDES.len()];
 
@@ -41,10 +44,10 @@ fn cell(figure: Option<f64>, digits: usize) -> String {
 }
 
 /// What one more of something costs: the slope of the line that fits best, by how many there were.
-pub fn slope(points: &[(f64, Costs)]) -> Costs {
+pub fn slope(points: &[(f64, Figures)]) -> Costs {
     std::array::from_fn(|side| {
-        let points: Option<Vec<(f64, f64)>> = points.iter().map(|(n, costs)| Some((*n, costs[side]?))).collect();
-        least_squares(&points?)
+        let points: Vec<(f64, f64)> = points.iter().map(|(n, figures)| (*n, figures[side])).collect();
+        least_squares(&points)
     })
 }
 
@@ -57,8 +60,8 @@ fn least_squares(points: &[(f64, f64)]) -> Option<f64> {
 }
 
 /// What the second costs less than the first.
-pub fn less(first: Costs, second: Costs) -> Costs {
-    std::array::from_fn(|side| Some(first[side]? - second[side]?))
+pub fn less(first: Figures, second: Figures) -> Figures {
+    std::array::from_fn(|side| first[side] - second[side])
 }
 
 /// The lesser of each two figures.
