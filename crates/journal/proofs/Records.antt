@@ -13,7 +13,7 @@ use Rattle.codes.specs.Number.{put}
 use Rattle.drive.specs.Faults.{zeros}
 use Rattle.station.specs.Calls.{Call, kinds}
 use Rattle.station.specs.Isolation.{answer, after}
-use Rattle.journal.specs.Line.{recordLength, cycleRecord, frameRecord, cycleCall, frameLength, frameCall, isCycle, isMerged, isFrame, isRecord, callOf, lineOf, badLine, recordLine, recordAfter}
+use Rattle.journal.specs.Line.{recordLength, cycleRecord, frameRecord, cycleCall, frameLength, frameCall, holdsFrame, isCycle, isFrame, isRecord, callOf, lineOf, badLine, recordLine, recordAfter}
 use Rattle.journal.specs.declared.Acted.{Acted}
 use Rattle.journal.specs.declared.Acted.the-variants.{Bad}
 use Rattle.journal.specs.History.{actedBy, actedOf}
@@ -40,12 +40,12 @@ pub frame-lengths : (r : List ℕ) → isFrame r ≡ true → (length r ≡ fram
 frame-lengths r h =
     let clear = zeros (drop (3 + frameLength r) r) in
     let fits = leb (frameLength r) 244 in
-    let whole = and-eq-true-iff (eqb (length r) frameRecord) ((eqb (getD r 0 0) 2 || isMerged r) && (fits && clear)) .0 h in
-    let kind = and-eq-true-iff (eqb (getD r 0 0) 2 || isMerged r) (fits && clear) .0 (whole .1) in
+    let whole = and-eq-true-iff (eqb (length r) frameRecord) (holdsFrame (getD r 0 0) && (fits && clear)) .0 h in
+    let kind = and-eq-true-iff (holdsFrame (getD r 0 0)) (fits && clear) .0 (whole .1) in
     (eqb-true _ _ (whole .0), leb-true _ _ (and-eq-true-iff fits clear .0 (kind .1) .0))
 
 -- both kinds that hold a frame are as long
-frame-kinds : (kind : ℕ) → eqb kind 2 || eqb kind 3 ≡ true → recordLength kind ≡ frameRecord
+frame-kinds : (kind : ℕ) → holdsFrame kind ≡ true → recordLength kind ≡ frameRecord
 frame-kinds kind e = go (eqb kind 2) refl
   where
     go : (b : Bool) → eqb kind 2 ≡ b → recordLength kind ≡ frameRecord
@@ -63,8 +63,8 @@ record-whole r = go (isCycle r) (isFrame r) refl refl
     go : (c f : Bool) → isCycle r ≡ c → isFrame r ≡ f → c || f ≡ true → recordLength (getD r 0 0) ≡ length r
     go true f a b e = ap recordLength (eqb-true (getD r 0 0) 1 (and-eq-true-iff (eqb (length r) cycleRecord) (eqb (getD r 0 0) 1) .0 a .1)) ∙ sym (cycle-length r a)
     go false true a b e =
-        let x = and-eq-true-iff (eqb (length r) frameRecord) ((eqb (getD r 0 0) 2 || isMerged r) && rest) .0 b in
-        frame-kinds (getD r 0 0) (and-eq-true-iff (eqb (getD r 0 0) 2 || isMerged r) rest .0 (x .1) .0) ∙ sym (frame-lengths r b .0)
+        let x = and-eq-true-iff (eqb (length r) frameRecord) ((holdsFrame (getD r 0 0)) && rest) .0 b in
+        frame-kinds (getD r 0 0) (and-eq-true-iff (holdsFrame (getD r 0 0)) rest .0 (x .1) .0) ∙ sym (frame-lengths r b .0)
     go false false a b e = absurd (true≢false (sym e))
 
 -- what a play and an act promise, by what the bytes are

@@ -1,6 +1,6 @@
 -- The laws of a whole journal: how it is parted, and that the records played one after the other are its replay.
 use mathlib.Core.Path.{_≡_, refl, sym, ap, _∙_}
-use mathlib.Core.Bool.{true, false, _||_}
+use mathlib.Core.Bool.{true, false}
 use mathlib.Core.List.{List, [], _∷_, _++_, append-assoc}
 use Prim.Native.Nat.{ℕ, zero, suc, _≤_}
 use native.Mathlib.Omega.{arith}
@@ -12,7 +12,7 @@ use Rattle.codes.specs.Code.{AllOf}
 use Rattle.station.specs.Parts.{farms, freshParts}
 use Rattle.station.specs.Calls.{kinds}
 use Rattle.station.specs.Isolation.{answer, after}
-use Rattle.journal.specs.Line.{recordLength, longestRecord, nextRecord, pastRecord, isRecord, callOf, lineOf, recordLine, recordAfter}
+use Rattle.journal.specs.Line.{holdsFrame, recordLength, longestRecord, nextRecord, pastRecord, isRecord, callOf, lineOf, recordLine, recordAfter}
 use Rattle.journal.specs.History.{partedIn, parted, history, calls, lines, endLine, replayFrom}
 use Rattle.journal.specs.Laws.{joined, PartedAsWritten, EveryJournal, EnoughBytes, piecesIn, pieces, played, PlaysWhole, ReplaysWhole}
 use Rattle.journal.proofs.Records.{record-whole}
@@ -21,7 +21,7 @@ use Rattle.journal.proofs.Records.{record-whole}
 pub record-sizes : (kind : ℕ) → (1 ≤ recordLength kind) × (recordLength kind ≤ longestRecord)
 record-sizes kind =
     cases (eqb kind 1) (λ e. rw e (lit≤ tt, lit≤ tt))
-    (λ e. cases (eqb kind 2 || eqb kind 3) (λ f. rw (e, f) (lit≤ tt, lit≤ tt)) (λ f. rw (e, f) (lit≤ tt, lit≤ tt)))
+    (λ e. cases (holdsFrame kind) (λ f. rw (e, f) (lit≤ tt, lit≤ tt)) (λ f. rw (e, f) (lit≤ tt, lit≤ tt)))
 
 record-some : (r : List ℕ) → isRecord r ≡ true → 1 ≤ length r
 record-some r is = omega (arith, record-whole r is, record-sizes (getD r 0 0) .0)

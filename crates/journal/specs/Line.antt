@@ -20,9 +20,12 @@ cycleRecord = 11
 abbrev pub frameRecord : ℕ
 frameRecord = 247
 
+abbrev pub holdsFrame : ℕ → Bool
+holdsFrame kind = eqb kind 2 || eqb kind 3
+
 -- "Records: one byte of kind, then a body": how long a record of a kind is; anything else is bad by its kind byte
 abbrev pub recordLength : ℕ → ℕ
-recordLength kind = cond (eqb kind 1) cycleRecord (cond (eqb kind 2 || eqb kind 3) frameRecord 1)
+recordLength kind = cond (eqb kind 1) cycleRecord (cond (holdsFrame kind) frameRecord 1)
 
 -- the longest of them
 abbrev pub longestRecord : ℕ
@@ -63,10 +66,9 @@ frameCall r = frameBy (isMerged r) (getD r 1 0) (take (frameLength r) (drop 3 r)
 abbrev pub isCycle : List ℕ → Bool
 isCycle r = eqb (length r) cycleRecord && eqb (getD r 0 0) 1
 
--- of kind 2 or 3
 abbrev pub isFrame : List ℕ → Bool
 isFrame r =
-    eqb (length r) frameRecord && ((eqb (getD r 0 0) 2 || isMerged r) && (leb (frameLength r) 244 && zeros (drop (3 + frameLength r) r)))
+    eqb (length r) frameRecord && (holdsFrame (getD r 0 0) && (leb (frameLength r) 244 && zeros (drop (3 + frameLength r) r)))
 
 -- the state's name
 abbrev pub stateName : ℕ → List ℕ

@@ -11,13 +11,12 @@ use Rattle.codes.proofs.Put.{put-length}
 use Rattle.part.specs.Layout.{partSize, waitingLength, waiting}
 use Rattle.part.specs.WellFormed.{wellFormed}
 use Rattle.station.specs.Frame.{isRead, refusedReply, frameRefusal, frameAnswer, frameReply, framePart}
-use Rattle.station.specs.Inner.{early}
 use Rattle.station.specs.Exchange.{FrameDone, frameDone, fetchAll, noRead, exchangeDone, exchangeTests}
 use Rattle.station.specs.Calls.{exchange, toFrame, refusedFrame, kindOf}
 use Rattle.station.specs.Owed.{Owes}
 use Rattle.station.proofs.Tests.{by-test, one-of}
 use Rattle.station.proofs.Answers.{quiet}
-use Rattle.station.proofs.Judged.{passes}
+use Rattle.station.proofs.Judged.{done-passes}
 use Rattle.station.proofs.Says.{later}
 use Rattle.station.proofs.FrameOwes.{writes, frame-owes}
 use Rattle.station.proofs.Passes.{fetch-next}
@@ -80,9 +79,9 @@ module _ (k : ℕ) (f m p : List ℕ) where
 
   -- it is done: the fetch after it passes,
   pub fetch-done : written ≡ 0 → frameRefusal k fetchAll (length (frameReply k (noRead f) m p)) (framePart k (noRead f) m p) ≡ 0
-  unfolding early frameReply
+  unfolding frameReply
   fetch-done w =
-      let room = passes k (noRead f) (length m) p (sym (ap early w)) .room in
+      let room = done-passes k (noRead f) (length m) p w .room in
       let long : length (frameReply k (noRead f) m p) ≡ length m = put-length m 0 _ in
       fetch-next k (noRead f) m p w (writes k (noRead f) (length m) p w (unread f) .0) (frameReply k (noRead f) m p) (omega arith)
 

@@ -13,13 +13,13 @@ use Rattle.part.specs.Layout.{partSize, waitingLength, withResponse}
 use Rattle.station.specs.declared.Framed.{Framed}
 use Rattle.station.specs.Parts.{partOf}
 use Rattle.station.specs.Frame.{isWrite, isRead, frameRefusal, frameAnswer, frameReply, framePart}
-use Rattle.station.specs.Inner.{early, fetched, framed}
+use Rattle.station.specs.Inner.{fetched, framed}
 use Rattle.station.specs.Exchange.{fetchAll, noRead}
 use Rattle.station.specs.Isolation.{answer, after}
 use Rattle.station.specs.Calls.{frame, exchange, toFrame, numberIn, kinds}
 use Rattle.station.proofs.Tests.{by-test}
 use Rattle.station.proofs.Answers.{does}
-use Rattle.station.proofs.Judged.{Passed, passes}
+use Rattle.station.proofs.Judged.{Passed, done-passes}
 use Rattle.station.proofs.Frames.{formed, fetched-frame}
 use Rattle.station.proofs.FrameOwes.{writes}
 use Rattle.station.proofs.ExchangeOwes.{itself, done-unread, fetch-done}
@@ -77,10 +77,10 @@ module _ (k : ℕ) (f m s : List ℕ) (a : Framed) (r t : List ℕ)
     part = ap (partOf k) left ∙ own kinds sized (frame k (noRead f) m) s (was .0)
 
     passed : Passed k fetchAll (length r) (partOf k t)
-    unfolding early frameAnswer
+    unfolding frameAnswer
     passed =
         let sent : frameRefusal k fetchAll (length r) (partOf k t) ≡ 0 = rw (reply, part) (fetch-done k f m p (was .1)) in
-        passes k fetchAll (length r) (partOf k t) (sym (ap early sent))
+        done-passes k fetchAll (length r) (partOf k t) sent
 
     pub hands : (length (partOf k t) ≡ partSize) × ((waitingLength (partOf k t) ≤ blockLimit) × (4 + blockLimit ≤ length r))
     hands = let w = formed k (partOf k t) (passed .formed) in (w .0, (w .1, passed .room))

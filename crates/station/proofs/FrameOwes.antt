@@ -13,11 +13,10 @@ use Rattle.part.proofs.Laws.{response-length, no-response-well-formed}
 use Rattle.access.proofs.Lengths.{outcome-length}
 use Rattle.access.proofs.Keeps.{block-keeps-well-formed}
 use Rattle.station.specs.Frame.{isWrite, isRead, blockOf, frameRefusal, frameAnswer, frameReply, framePart}
-use Rattle.station.specs.Inner.{early}
 use Rattle.station.specs.Calls.{frame, toFrame, refusedFrame, kindOf}
 use Rattle.station.specs.Owed.{Owes}
 use Rattle.station.proofs.Tests.{one-of}
-use Rattle.station.proofs.Judged.{passes}
+use Rattle.station.proofs.Judged.{done-passes}
 use Rattle.station.proofs.Says.{later}
 use Rattle.station.proofs.Frames.{refused-frame}
 
@@ -28,9 +27,8 @@ turned true reads false x r t = absurd (true≢false t)
 turned false reads none x r t = absurd (true≢false (sym r ∙ x))
 
 pub writes : (k : ℕ) (f : List ℕ) (m : ℕ) (p : List ℕ) → frameRefusal k f m p ≡ 0 → isRead f ≡ false → (isWrite f ≡ true) × (waitingLength p ≡ 0)
-unfolding early
 writes k f m p e isnt =
-    let c = passes k f m p (sym (ap early e)) in
+    let c = done-passes k f m p e in
     let t = turned (isWrite f) (isRead f) (eqb (waitingLength p) 0) isnt (c .function) (c .turn) in
     (t .0, eqb-true (waitingLength p) 0 (t .1))
 

@@ -1,5 +1,5 @@
 -- The refusal of a frame by its number, where numbers 2 to 9 are tested first.
-use mathlib.Core.Path.{_≡_, refl, sym}
+use mathlib.Core.Path.{_≡_, refl, sym, ap}
 use mathlib.Core.Bool.{Bool, true, false, cond, not, _&&_, _||_, true≢false}
 use mathlib.Core.List.{List}
 use Prim.Native.Nat.{ℕ, _≤_}
@@ -87,3 +87,7 @@ passes k f m p e =
       turn = t .3;
       number = t .4;
     }
+
+pub done-passes : (k : ℕ) (f : List ℕ) (m : ℕ) (p : List ℕ) → frameRefusal k f m p ≡ 0 → Passed k f m p
+unfolding early
+done-passes k f m p e = passes k f m p (sym (ap early e))

@@ -22,9 +22,8 @@ use Rattle.part.specs.Layout.{responseAt, responseRoom, waitingLength, waiting,
 use Rattle.part.specs.WellFormed.{wellFormed}
 use Rattle.access.specs.Work.{outcomeOf}
 use Rattle.station.specs.Frame.{isWrite, blockOf, fetchOf, frameTests, frameRefusal, framePart}
-use Rattle.station.specs.Inner.{early}
 use Rattle.station.specs.Exchange.{fetchAll}
-use Rattle.station.proofs.Judged.{passes}
+use Rattle.station.proofs.Judged.{done-passes}
 use Rattle.station.proofs.Says.{mine}
 use Rattle.station.proofs.Frames.{formed}
 use Rattle.station.proofs.Sends.{waits-as-ruled}
@@ -58,8 +57,7 @@ fetched-part k f m p e isnt = rw (e, isnt) refl
 -- a write that is done, on the part p, with the reply memory m
 module _ (k : ℕ) (f m p : List ℕ) (e : frameRefusal k f (length m) p ≡ 0) (is : isWrite f ≡ true) where
   was-formed : wellFormed k p ≡ true
-  unfolding early
-  was-formed = passes k f (length m) p (sym (ap early e)) .formed
+  was-formed = done-passes k f (length m) p e .formed
 
   pub left-formed : wellFormed k (framePart k f m p) ≡ true
   left-formed = frame-owes k f m .formed p tt was-formed

@@ -1,5 +1,5 @@
 -- What waits after a block is worked is the response that the rules give, and what is sent is what waits.
-use mathlib.Core.Path.{_≡_, refl, sym, _∙_, ap}
+use mathlib.Core.Path.{_≡_, refl, _∙_, ap}
 use mathlib.Core.Bool.{Bool, true, false, not, _&&_, _||_, and-eq-true-iff}
 use mathlib.Core.List.{List, []}
 use Prim.Native.Nat.{ℕ, _≤_}
@@ -22,9 +22,8 @@ use Rattle.access.specs.Work.{worked, Outcome, outcomeOf}
 use Rattle.access.proofs.Answers.{answer-readable}
 use Rattle.access.proofs.Keeps.{only-asked-changes}
 use Rattle.station.specs.Frame.{isWrite, isRead, frameReply}
-use Rattle.station.specs.Inner.{early}
 use Rattle.station.specs.Laws.{WaitsAsRuled, SendsWaiting}
-use Rattle.station.proofs.Judged.{passes}
+use Rattle.station.proofs.Judged.{done-passes}
 
 -- a readable block of the axis itself is worked
 pub taken-is :
@@ -51,9 +50,9 @@ reads-back : (none short reads own : Bool) → none ≡ false → none || short 
 reads-back none short reads own x w = and-eq-true-iff short reads .0 (and-eq-true-iff (short && reads) own .0 (rw x at w) .0) .1
 
 pub sends-waiting : SendsWaiting
-unfolding frameReply early waitingFits
+unfolding frameReply waitingFits
 sends-waiting k f m p e x =
-    let c = passes k f (length m) p (sym (ap early e)) in
+    let c = done-passes k f (length m) p e in
     let some = waits (isWrite f) (isRead f) (eqb (waitingLength p) 0) x (c .function) (c .turn) in (
       rw (e, x) refl,
       reads-back (eqb (waitingLength p) 0) (leb (waitingLength p) blockLimit) (readable blockLimit response (waiting p)) (eqb (headerOf (waiting p) .axis) k) some (form-of k p (c .formed) .waits),

@@ -1,6 +1,6 @@
--- Document 01, "The order of checks is the order of numbers", "the whole station after any refusal, stay[s] unchanged", and "A waiting
--- response outlives" refusals, as every kind of call owes it, said once for all of them: on this rest the laws of numbers, refusals, well-formed
--- parts, isolation and what may come between a write and its fetch (Laws.antt).
+-- Document 01, "Frames and refusal numbers": "The order of checks is the order of numbers.", "the whole station after any refusal" stays, "A
+-- waiting response outlives 8 and 9.": what every kind of call owes of that on its owner's part, said once for all of them. The laws of
+-- numbers, refusals, well-formed parts, isolation and of what may come between a write and its fetch (Laws.antt) rest on it.
 use mathlib.Core.Path.{_≡_}
 use mathlib.Core.Bool.{true, false, cond, not}
 use mathlib.Core.List.{List}
