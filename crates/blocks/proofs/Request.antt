@@ -1,5 +1,6 @@
 -- What stands where in a block that is read: its header, its addresses and its blocks of values.
 use mathlib.Core.Path.{_≡_, refl, sym, _∙_, ap}
+use mathlib.Core.Bool.{Bool}
 use mathlib.Core.List.{List, [], _∷_, _++_, append-assoc, append-nil}
 use Prim.Native.Nat.{ℕ, _+_, _*_, _<_}
 use native.Mathlib.Omega.{arith}
@@ -14,13 +15,14 @@ use Rattle.codes.proofs.Items.{all-length}
 use Rattle.codes.proofs.Number.{number-is}
 use Rattle.blocks.specs.declared.Header.{Header}
 use Rattle.blocks.specs.declared.reader.Address.{Address}
-use Rattle.blocks.specs.Block.{changeBlockFits, block}
+use Rattle.blocks.specs.Block.{Block, changeBlockFits, responseBlockFits, valuesSize, block}
 use Rattle.blocks.specs.Request.{Request, address, requestBlocks, request}
-use Rattle.blocks.specs.Response.{Response, response}
+use Rattle.blocks.specs.Response.{Response, responseBlocks, response}
 use Rattle.blocks.specs.Place.{headerOf, addressesEnd}
-use Rattle.blocks.specs.Page.{blockBytes, requestBytes, RequestFits, ResponseFits}
+use Rattle.blocks.specs.Page.{BlockFits, blockBytes, requestBytes, RequestFits, ResponseFits}
 use Rattle.blocks.proofs.Sound.{address-sound, block-sound, request-sound, response-sound}
-use Rattle.blocks.proofs.Page.{request-valid, request-bytes, answer-small, response-valid, response-bytes}
+use Rattle.blocks.proofs.Page.{block-bytes, block-valid, request-valid, request-bytes, answer-small, response-valid, response-bytes}
+use Rattle.blocks.proofs.Parts.{block-written}
 
 -- a byte at the front of what is left
 byte-here : (s : List ℕ) (at x : ℕ) (u : List ℕ) → x < 256 → drop at s ≡ x ∷ u → numberAt 1 s at ≡ x
@@ -89,3 +91,32 @@ module _ (s : List ℕ) (r : Response) (t : List ℕ) (e : response .read s ≡ 
   response-header =
       header-here s (writeAll blockBytes (r .blocks) ++ t) _ (omega (arith, answer .reference)) (answer-small (r .identifier) (answer .identifier)) (answer .axis) (omega (arith, answer .number))
       (response-sound .only s r t e .1 ∙ ap (λ (l : List ℕ). l ++ t) (response-bytes r))
+
+  -- its blocks of values are read in a row from place 4 on
+  pub answers-read : readTimes (block (responseBlockFits (r .identifier)) .read) (responseBlocks (r .identifier) (r .count)) (drop 4 s) ≡ got (r .blocks) t
+  unfolding response
+  answers-read =
+      let these = block (responseBlockFits (r .identifier)) in
+      let all = writeAll (these .write) (r .blocks) in
+      let o = response-sound .only s r t e in
+      ap (readTimes (these .read) (responseBlocks (r .identifier) (r .count))) (ap (drop 4) (o .1) ∙ ap (λ (l : List ℕ). l ++ t) (append-nil all))
+      ∙ times-sound these (block-sound (responseBlockFits (r .identifier))) (responseBlocks (r .identifier) (r .count)) .back (r .blocks) t (o .0 .1 .1 .1 .1 .0 .0)
+
+-- a block of values that is read: its format and its count are its first two bytes, and what follows stands after all of its bytes
+module _ (rule : ℕ → ℕ → Bool) (s : List ℕ) (at : ℕ) (b : Block) (t : List ℕ) (e : block rule .read (drop at s) ≡ got b t) where
+  block-fits : BlockFits rule b
+  block-fits = block-valid rule b .0 (block-sound rule .only (drop at s) b t e .0)
+
+  block-laid : drop at s ≡ blockBytes b ++ t
+  block-laid = block-sound rule .only (drop at s) b t e .1 ∙ ap (λ (l : List ℕ). l ++ t) (block-bytes rule b)
+
+  pub format-here : numberAt 1 s at ≡ b .format
+  format-here = byte-here s at (b .format) _ (block-fits .format) block-laid
+
+  pub count-here : numberAt 1 s (at + 1) ≡ length (b .values)
+  count-here = byte-here s (at + 1) (length (b .values)) _ (block-fits .number) (sym (drop-drop 1 at s) ∙ ap (drop 1) block-laid)
+
+  pub after-block : t ≡ drop (at + (2 + valuesSize (b .format) (length (b .values)))) s
+  after-block =
+      let size = 2 + valuesSize (b .format) (length (b .values)) in
+      sym (sym (drop-drop size at s) ∙ (ap (drop size) block-laid ∙ drop-at (blockBytes b) t size (sym (block-written (b .format) (length (b .values)) (b .values) refl))))

@@ -156,10 +156,14 @@ module _ {A : Type 0} (c : Code A) (sc : Sound c) where
       go (got a (x ∷ t)) e h = absurd (let z : _≡_ {A = ℕ} 0 1 = cc in omega arith)
       go bad e h = absurd (let z : _≡_ {A = ℕ} 0 1 = cc in omega arith)
 
+  -- what is written is read back as it was, with nothing left over
+  pub read-back : (a : A) → c .Valid a → c .read (c .write a) ≡ got a []
+  read-back a v = rw append-nil at (sc .back a [] v)
+
   pub no-longer : (a b : A) (t : List ℕ) → c .Valid a → c .Valid b → c .write a ++ t ≡ c .write b → (t ≡ []) × (a ≡ b)
   no-longer a b t va vb e =
       let p : c .read (c .write b) ≡ got a t = rw (← e) (sc .back a t va) in
-      let q : c .read (c .write b) ≡ got b [] = rw append-nil at (sc .back b [] vb) in
+      let q = read-back b vb in
       (cc, cc)
 
   pub only-one : (a b : A) → c .Valid a → c .Valid b → c .write a ≡ c .write b → a ≡ b
