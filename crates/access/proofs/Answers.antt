@@ -137,7 +137,7 @@ code-allowed U16 n h = rw (le-leb 1 n h)
 code-allowed I16 n h = rw (le-leb 1 n h)
 code-allowed I32 n h = rw (le-leb 1 n h)
 
-elements-count : (r : Row) (i n : ℕ) (p : List ℕ) → length (elementsFrom r i n p) ≡ n
+pub elements-count : (r : Row) (i n : ℕ) (p : List ℕ) → length (elementsFrom r i n p) ≡ n
 elements-count r i zero p = refl
 elements-count r i (suc n) p = ap suc (elements-count r (i + 1) n p)
 

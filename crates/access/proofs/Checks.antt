@@ -10,6 +10,7 @@ use borrow.Author.Tests.{leb-true, ltb-false, eqb-true, eqb-false, not-false}
 use Rattle.codes.proofs.Demand.{both}
 use Rattle.drive.specs.Faults.{bufferCodes}
 use Rattle.blocks.specs.declared.reader.Address.{Address}
+use Rattle.checker.specs.Check.{elementsAsked}
 use Rattle.catalogue.specs.declared.Row.{Row}
 use Rattle.catalogue.specs.declared.Found.{Found}
 use Rattle.catalogue.specs.declared.Found.the-variants.{At, Nothing}
@@ -52,20 +53,27 @@ pub record Named (a : Address) (r : Row) (n : ℕ) : Type 0 where
   pub some : 1 ≤ n
   pub room : a .subindex + n ≤ r .count
   pub short : r .count ≤ bufferCodes
+  pub asked : n ≡ elementsAsked (a .elements)
 
 abbrev pub CheckedFits : Address → Checked → Type 0
 CheckedFits a (Elements r n) = Named a r n
 CheckedFits a (Error e) = e < 65536
 
+one-asked : (n : ℕ) → n ≤ 1 → 1 ≡ elementsAsked n
+one-asked n few = pick (λ x. 1 ≡ x) (eqb n 0) (λ t. refl) (λ t. let some = eqb-false n 0 t in omega arith)
+
 module _ (a : Address) where
   module _ (r : Row) (e : findOf (a .pnu) ≡ At r) where
-    named : (n : ℕ) → 1 ≤ n → a .subindex + n ≤ r .count → CheckedFits a (Elements r n)
-    named n some room = record { found = e; row = found-row (a .pnu) r e; some = some; room = room; short = found-small (a .pnu) r e }
+    named : (n : ℕ) → 1 ≤ n → a .subindex + n ≤ r .count → n ≡ elementsAsked (a .elements) → CheckedFits a (Elements r n)
+    named n some room asked =
+        record { found = e; row = found-row (a .pnu) r e; some = some; room = room; short = found-small (a .pnu) r e; asked = asked }
 
     one : not (eqb (a .subindex) 0) || ltb 1 (a .elements) ≡ false → CheckedFits a (Elements r 1)
     one t =
-        let first = not-false (eqb (a .subindex) 0) (or-eq-false-iff (not (eqb (a .subindex) 0)) (ltb 1 (a .elements)) .0 t .0) in
+        let tests = or-eq-false-iff (not (eqb (a .subindex) 0)) (ltb 1 (a .elements)) .0 t in
+        let first = not-false (eqb (a .subindex) 0) (tests .0) in
         named 1 (lit≤ tt) (omega (arith, eqb-true (a .subindex) 0 first, row-some r (found-row (a .pnu) r e)))
+        (one-asked (a .elements) (ltb-false 1 (a .elements) (tests .1)))
 
     row-fits : CheckedFits a (checkedIn a (At r))
     row-fits =
@@ -77,7 +85,7 @@ module _ (a : Address) where
         pick (CheckedFits a) (eqb (a .elements) 0) (λ y. lit< tt) (λ y.
         pick (CheckedFits a) (ltb (r .count) (a .subindex + a .elements)) (λ z. lit< tt) (λ z.
         let nonzero = eqb-false (a .elements) 0 y in
-        named (a .elements) (omega arith) (ltb-false (r .count) (a .subindex + a .elements) z))))))))
+        named (a .elements) (omega arith) (ltb-false (r .count) (a .subindex + a .elements) z) (rw y))))))))
 
   pub checked-fits : CheckedFits a (checked a)
   unfolding checked

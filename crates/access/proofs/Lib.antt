@@ -12,6 +12,7 @@ pub mod Responding
 pub mod Outcomes
 pub mod Lengths
 pub mod Answers
+pub mod Passing
 pub mod Keeps
 pub mod There
 pub mod Instances

@@ -1,5 +1,5 @@
 -- What callers may cite of every request that is worked on a part, whatever that part holds: from document 01, "Response block",
--- "Parameters of each axis" and "A part is well-formed". Each is a statement here and a proof in proofs/.
+-- "Parameters of each axis" and "A part is well-formed", and document 02, R-4. Each is a statement here and a proof in proofs/.
 use mathlib.Core.Path.{_≡_}
 use mathlib.Core.Bool.{true, false, cond, _||_}
 use mathlib.Core.List.{List, [], _∷_, _++_, List·Memᴰ}
@@ -14,6 +14,7 @@ use Rattle.blocks.specs.Response.{Response, isError, hasError, response}
 use Rattle.blocks.specs.Page.{RequestFits, ResponseFits, responseBytes}
 use Rattle.blocks.specs.Place.{headerOf}
 use Rattle.blocks.specs.declared.reader.Address.{Address}
+use Rattle.checker.specs.Laws.{Answers}
 use Rattle.catalogue.specs.declared.Row.{Row}
 use Rattle.catalogue.specs.declared.Found.the-variants.{At}
 use Rattle.catalogue.specs.Table.{rows, parameterBytes, findOf}
@@ -74,6 +75,10 @@ abbrev pub FailureAnswered : Type 0
 FailureAnswered =
     (r : Request) (p : List ℕ) → RequestFits r
     → ((worked r p .response .identifier ≡ 0x81) ⊎ (worked r p .response .identifier ≡ 0x82)) ↔ (hasError (blocksOf r p) ≡ true)
+
+-- R-4: "Every response of our own station passes for its request.", by the checker's own words
+abbrev pub AnswerPasses : Type 0
+AnswerPasses = (r : Request) (p : List ℕ) → RequestFits r → Answers r (worked r p .response)
 
 -- a request (01) changes no byte and stores nothing
 abbrev pub ReadKeeps : Type 0
