@@ -3,11 +3,11 @@
 use mathlib.Core.Path.{_≡_, refl, ap, _∙_}
 use mathlib.Core.Bool.{Bool, true, false}
 use mathlib.Core.List.{List, [], _∷_, _++_, map}
-use Prim.Native.Nat.{ℕ, _≤_}
+use Prim.Native.Nat.{ℕ, _-_, _≤_}
 use native.Mathlib.Omega.{arith}
 use lib.Dec.{eqb, lit≤, lit<}
 use lib.IntN.{pos, negsuc}
-use lib.ListN.{length, drop}
+use lib.ListN.{length, take, drop}
 use borrow.Author.Tests.{eq-eqb, le-ltb}
 use Rattle.codes.specs.Code.{got, AllOf, readable}
 use Rattle.codes.specs.Number.{numberAt, put}
@@ -15,6 +15,7 @@ use Rattle.blocks.specs.Block.{blockLimit, formatSize, valueSize, changeBlockFi
 use Rattle.blocks.specs.Request.{Request, address, requestBlocks, request}
 use Rattle.blocks.specs.Response.{response}
 use Rattle.blocks.specs.Page.{RequestFits, requestBytes, ResponseFits, responseBytes}
+use Rattle.checker.specs.Check.{checkOf}
 use Rattle.drive.specs.Cycle.{cycleOf}
 use Rattle.catalogue.specs.Table.{rows, parameterBytes, offsetOf}
 use Rattle.catalogue.specs.Element.{putElement}
@@ -43,6 +44,7 @@ use Rattle.station.proofs.Worked.{worked-by-hand, merged-by-hand}
 use Rattle.station.proofs.Responds.{responds-as-ruled, fetch-follows}
 use Rattle.station.proofs.Merged.{in-turn, write-alone, read-as-none, merges-as-ruled}
 use Rattle.station.proofs.Past.{past-stays}
+use Rattle.station.proofs.OwnPasses.{fetched-passes, merged-passes}
 
 -- the numbers at both ends of a cycle's words
 largest : Sent
@@ -282,6 +284,18 @@ module _ (m s : List ℕ) where
   read-as-no-frame :
       (answer kinds (exchange 16 (0x5E ∷ 1 ∷ 0x2F ∷ 0 ∷ 0 ∷ []) m) s ≡ answer kinds (frame 16 [] m) s) × (after kinds (exchange 16 (0x5E ∷ 1 ∷ 0x2F ∷ 0 ∷ 0 ∷ []) m) s ≡ s)
   read-as-no-frame = read-as-none 16 (0x5E ∷ 1 ∷ 0x2F ∷ 0 ∷ 0 ∷ []) m s refl
+
+-- FetchedPasses and MergedPasses: a fetch of 8 bytes after the worked write, with a merged call between, and any merged call of the last farm
+module _ (m s : List ℕ) where
+  fetched-block : (w w′ : List ℕ) (a : Framed) → numberIn (answer kinds (frame 1 marksFrame m) s) ≡ 0
+      → answer kinds (frame 1 (0x5E ∷ 0 ∷ 0x2F ∷ 8 ∷ []) w) (after kinds (exchange 1 marksFrame w) (after kinds (frame 1 marksFrame m) s)) ≡ toFrame a w′ → a .number ≡ 0
+      → checkOf (drop 4 marksFrame) (take (a .length - 4) (drop 4 w′)) ≡ 0
+  unfolding runEnd
+  fetched-block w w′ a done e n =
+      fetched-passes 1 marksFrame m s (exchange 1 marksFrame w ∷ []) (0x5E ∷ 0 ∷ 0x2F ∷ 8 ∷ []) w a w′ refl done (record { fits = λ z. tt; stays = λ z. refl }, tt) refl e n
+
+  merged-block : (f w : List ℕ) (a : Framed) → answer kinds (exchange 16 f m) s ≡ toFrame a w → a .number ≡ 0 → checkOf (drop 4 f) (take (a .length - 4) (drop 4 w)) ≡ 0
+  merged-block f w a e n = merged-passes 16 f m s a w e n
 
 -- TellsWhatItDid: both, of the last axis
 module _ (i : Sent) (p : List ℕ) (fine : cycleRefusal 16 i p ≡ 0) where

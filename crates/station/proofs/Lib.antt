@@ -22,4 +22,5 @@ pub mod Responds
 pub mod Merged
 pub mod Exchanges
 pub mod Past
+pub mod OwnPasses
 pub mod Instances

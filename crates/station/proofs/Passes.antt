@@ -10,17 +10,17 @@ use lib.ListN.{length, take, drop, length-drop}
 use lib.Seq.{length-take-le}
 use borrow.Author.Tests.{eq-eqb, ne-eqb, le-leb, le-ltb}
 use Rattle.codes.specs.Code.{readable}
-use Rattle.codes.proofs.Demand.{readable-read}
 use Rattle.blocks.specs.declared.Header.{Header}
 use Rattle.blocks.specs.Block.{blockLimit}
-use Rattle.blocks.specs.Request.{request}
+use Rattle.blocks.specs.Request.{Request, request}
 use Rattle.blocks.specs.Response.{response}
 use Rattle.blocks.specs.Place.{headerOf}
-use Rattle.blocks.proofs.Sound.{request-sound}
 use Rattle.blocks.proofs.Request.{request-header}
 use Rattle.part.specs.Layout.{responseAt, responseRoom, waitingLength, waiting, withResponse}
 use Rattle.part.specs.WellFormed.{wellFormed}
-use Rattle.access.specs.Work.{outcomeOf}
+use Rattle.checker.specs.Laws.{IsRequest}
+use Rattle.checker.proofs.Laws.{request-of, request-read}
+use Rattle.access.specs.Work.{worked, outcomeOf}
 use Rattle.station.specs.Frame.{isWrite, blockOf, fetchOf, frameTests, frameRefusal, framePart}
 use Rattle.station.specs.Exchange.{fetchAll}
 use Rattle.station.proofs.Judged.{done-passes}
@@ -70,15 +70,25 @@ module _ (k : ℕ) (f m p : List ℕ) (e : frameRefusal k f (length m) p ≡ 0) 
   unfolding framePart
   left-is = rw (e, is) refl
 
+  -- the request that it writes, and what then waits
+  pub wrote : (r : Request) × IsRequest (blockOf f) r
+  wrote = request-of (blockOf f) (mine k f (length m) p tested is .reads)
+
+  pub waits-then :
+      (waiting (framePart k f m p) ≡ response .write (worked (wrote .0) p .response))
+      × (readable blockLimit response (waiting (framePart k f m p)) ≡ true)
+  waits-then =
+      let my = mine k f (length m) p tested is in
+      let read = request-read (blockOf f) (wrote .0) (wrote .1) in
+      let axis : wrote .0 .axis ≡ k = sym (ap (λ (h : Header). h .axis) (request-header (blockOf f) (wrote .0) [] read)) ∙ my .axis in
+      let good = waits-as-ruled k (blockOf f) p (wrote .0) (formed k p was-formed .0) (my .reads) read axis in
+      (ap waiting left-is ∙ good .0, ap (λ (l : List ℕ). readable blockLimit response (waiting l)) left-is ∙ good .1)
+
   pub something-waits : waitingLength (framePart k f m p) ≡ 0 → ⊥
   unfolding readable response
   something-waits none =
-      let my = mine k f (length m) p tested is in
-      let r = readable-read blockLimit request request-sound (blockOf f) (my .reads) in
-      let axis : r .0 .axis ≡ k = sym (ap (λ (h : Header). h .axis) (request-header (blockOf f) (r .0) [] (r .1))) ∙ my .axis in
-      let good = waits-as-ruled k (blockOf f) p (r .0) (formed k p was-formed .0) (my .reads) (r .1) axis .1 in
       let empty : waiting (framePart k f m p) ≡ [] = ap (λ (n : ℕ). take n (responseRoom (framePart k f m p))) none in
-      true≢false (sym good ∙ (ap (λ (l : List ℕ). readable blockLimit response (waiting l)) (sym left-is) ∙ ap (readable blockLimit response) empty))
+      true≢false (sym (waits-then .1) ∙ ap (readable blockLimit response) empty)
 
   pub fetch-next : (w : List ℕ) → 244 ≤ length w → frameRefusal k fetchAll (length w) (framePart k f m p) ≡ 0
   fetch-next w room =

@@ -2,7 +2,7 @@
 -- and the fetch with F0 after a write that was done is never refused.
 use mathlib.Core.Path.{_≡_, refl, sym, ap, subst, _∙_}
 use mathlib.Core.Bool.{Bool, true, false}
-use mathlib.Core.List.{List, [], _∷_, append-nil}
+use mathlib.Core.List.{List, [], _∷_}
 use Prim.Native.Nat.{ℕ, _≤_}
 use native.Mathlib.Omega.{arith}
 use lib.Dec.{eqb, lit≤}
@@ -14,10 +14,9 @@ use Rattle.blocks.specs.Request.{Request, request}
 use Rattle.blocks.specs.Place.{headerOf}
 use Rattle.blocks.specs.Page.{RequestFits, requestBytes, responseBytes}
 use Rattle.blocks.specs.declared.Header.{Header}
-use Rattle.blocks.proofs.Sound.{request-sound}
 use Rattle.blocks.proofs.Request.{request-header}
-use Rattle.blocks.proofs.Page.{request-valid, request-bytes, response-bytes}
-use Rattle.blocks.proofs.Demand.{requests}
+use Rattle.blocks.proofs.Page.{response-bytes}
+use Rattle.blocks.proofs.Demand.{requests, request-back}
 use Rattle.part.specs.Layout.{responseRoom, waitingLength, waiting, withResponse}
 use Rattle.part.specs.WellFormed.{wellFormed}
 use Rattle.part.proofs.Laws.{waiting-length-is}
@@ -27,7 +26,7 @@ use Rattle.station.specs.Parts.{farms, stationSize, partOf}
 use Rattle.station.specs.Frame.{lengthByte, blockOf, isWrite, fetchOf, frameRefusal, frameAnswer, frameReply, framePart}
 use Rattle.station.specs.Exchange.{fetchAll}
 use Rattle.station.specs.Runs.{runEnd}
-use Rattle.station.specs.Isolation.{after, machine}
+use Rattle.station.specs.Isolation.{answer, after, machine}
 use Rattle.station.specs.Calls.{Call, frame, toFrame, numberIn, kindOf, owner, kinds}
 use Rattle.station.specs.Laws.{writeOf, Between, replied, RespondsAsRuled, FetchFollows}
 use Rattle.station.proofs.Isolation.{Right, took-answer, fine, length-after, own, other}
@@ -42,12 +41,8 @@ module _ (r : Request) (fits : RequestFits r) (short : length (requestBytes r) �
   pub reads : readable blockLimit request (requestBytes r) ≡ true
   reads = requests .exact (requestBytes r) .1 (short, (r, fits, refl))
 
-  pub reads-back : request .read (requestBytes r) ≡ got r []
-  reads-back =
-      ap (request .read) (sym (append-nil (request .write r) ∙ request-bytes r)) ∙ request-sound .back r [] (request-valid r .1 fits)
-
   axis-is : headerOf (requestBytes r) .axis ≡ r .axis
-  axis-is = ap (λ (h : Header). h .axis) (request-header (requestBytes r) r [] reads-back)
+  axis-is = ap (λ (h : Header). h .axis) (request-header (requestBytes r) r [] (request-back r fits))
 
 -- what a write and a fetch that pass answer and leave
 module _ (k : ℕ) (f m p : List ℕ) (e : frameRefusal k f (length m) p ≡ 0) where
@@ -119,7 +114,7 @@ responds-as-ruled k r s m between n w rest fits short mine room calls enough mos
     let p : List ℕ = partOf k s in
     let home : Right k (length s) = record { low = rest .low; high = rest .high; size = rest .size } in
     let bytes = reads r fits short in
-    let back = reads-back r fits short in
+    let back = request-back r fits in
     let write = frame k (writeOf r) m in
     let pass = write-passes k m p (rest .formed) room (requestBytes r) (rest .idle) short bytes (axis-is r fits short ∙ mine) in
     let first = written k (writeOf r) m p pass refl in
@@ -153,21 +148,53 @@ responds-as-ruled k r s m between n w rest fits short mine room calls enough mos
           ∙ waiting-length-is [] q (formed k q (still .formed) .0) (omega arith);
     }
 
+-- a write that was done, and calls after it that do not fetch: what it left waiting waits still
+module _ (k : ℕ) (f m s : List ℕ) (between : List Call) (is : isWrite f ≡ true) (z : numberIn (answer kinds (frame k f m) s) ≡ 0) (calls : AllOf (Between k) between) where
+  abbrev after-write : List ℕ
+  after-write = framePart k f m (partOf k s)
+
+  abbrev atFetch : List ℕ
+  atFetch = runEnd (machine kinds) between (after kinds (frame k f m) s)
+
+  was-right : Right k (length s)
+  was-right = was-done (frame k f m) s z .0
+
+  pub was-taken : frameRefusal k f (length m) (partOf k s) ≡ 0
+  unfolding frameAnswer
+  was-taken = was-done (frame k f m) s z .1
+
+  some-waits : waiting after-write ≡ [] → ⊥
+  some-waits e =
+      something-waits k f m (partOf k s) was-taken is (waits-all k after-write (left-formed k f m (partOf k s) was-taken is) ∙ ap length e)
+
+  still : Waits k (waiting after-write) atFetch
+  still =
+      let left = own kinds sized (frame k f m) s was-right in
+      many-calls k (was-right .low) (was-right .high) (waiting after-write) some-waits between (after kinds (frame k f m) s) calls
+      (record {
+        size = length-after kinds sized (frame k f m) s ∙ was-right .size;
+        formed = ap (wellFormed k) left ∙ left-formed k f m (partOf k s) was-taken is;
+        waits = ap waiting left;
+      })
+
+  there : Right k (length atFetch)
+  there = at-home k (was-right .low) (was-right .high) (waiting after-write) some-waits atFetch (still .size)
+
+  follows : (w : List ℕ) → 244 ≤ length w → numberIn (answer kinds (frame k fetchAll w) atFetch) ≡ 0
+  unfolding frameAnswer
+  follows w wide =
+      ap numberIn (took-answer kinds (frame k fetchAll w) atFetch (fine there))
+      ∙ fetch-passes k w (partOf k atFetch) (still .formed) wide 0xF0 (full k (was-right .low) (was-right .high) (waiting after-write) some-waits (partOf k atFetch) (still .waits)) (formed k (partOf k atFetch) (still .formed) .1) (lit≤ tt)
+
+  -- what a fetch that is done hands over
+  pub hands-over :
+      (g w : List ℕ) → isWrite g ≡ false → numberIn (answer kinds (frame k g w) atFetch) ≡ 0
+      → answer kinds (frame k g w) atFetch ≡ replied (0x5E ∷ 0 ∷ 0x2F ∷ length (waiting after-write) ∷ waiting after-write) 0 w
+  unfolding frameAnswer
+  hands-over g w isnt n =
+      let long = waits-all k (partOf k atFetch) (still .formed) ∙ ap length (still .waits) in
+      took-answer kinds (frame k g w) atFetch (fine there)
+      ∙ fetched k g w (partOf k atFetch) (was-done (frame k g w) atFetch n .1) isnt (waiting after-write) long (still .waits) .0
+
 pub fetch-follows : FetchFollows
-unfolding frameAnswer
-fetch-follows k f m s between w is z calls wide =
-    let d = was-done (frame k f m) s z in
-    let p : List ℕ = partOf k s in
-    let write = frame k f m in
-    let left = own kinds sized write s (d .0) in
-    let well = left-formed k f m p (d .1) is in
-    let bs : List ℕ = waiting (framePart k f m p) in
-    let some : bs ≡ [] → ⊥ = λ e. something-waits k f m p (d .1) is (waits-all k (framePart k f m p) well ∙ ap length e) in
-    let waits : Waits k bs (after kinds write s) =
-    record { size = length-after kinds sized write s ∙ d .0 .size; formed = ap (wellFormed k) left ∙ well; waits = ap waiting left } in
-    let then = runEnd (machine kinds) between (after kinds write s) in
-    let still = many-calls k (d .0 .low) (d .0 .high) bs some between (after kinds write s) calls waits in
-    let q : List ℕ = partOf k then in
-    let there : Right k (length then) = at-home k (d .0 .low) (d .0 .high) bs some then (still .size) in
-    ap numberIn (took-answer kinds (frame k fetchAll w) then (fine there))
-    ∙ fetch-passes k w q (still .formed) wide 0xF0 (full k (d .0 .low) (d .0 .high) bs some q (still .waits)) (formed k q (still .formed) .1) (lit≤ tt)
+fetch-follows k f m s between w is z calls wide = follows k f m s between is z calls w wide

@@ -1,11 +1,11 @@
--- What callers may cite of every call on a station in place of its text: from document 01, "Frames and refusal numbers", document 02, R-3,
--- and demands 1 to 3. Each is a statement here and a proof in proofs/.
+-- What callers may cite of every call on a station in place of its text: from document 01, "Frames and refusal numbers", document 02, R-3
+-- and R-4, and demands 1 to 3. Each is a statement here and a proof in proofs/.
 use mathlib.Core.Path.{_≡_}
 use mathlib.Core.Bool.{Bool, true, false, cond, not, _&&_, _||_}
 use mathlib.Core.List.{List, [], _∷_, _++_}
-use Prim.Native.Nat.{ℕ, _≤_}
+use Prim.Native.Nat.{ℕ, _-_, _≤_}
 use lib.Dec.{eqb, leb}
-use lib.ListN.{length, drop}
+use lib.ListN.{length, take, drop}
 use Rattle.codes.specs.Code.{got, AllOf, readable}
 use Rattle.codes.specs.Number.{put}
 use Rattle.blocks.specs.Block.{blockLimit}
@@ -13,6 +13,7 @@ use Rattle.blocks.specs.Request.{Request, request}
 use Rattle.blocks.specs.Response.{Response, response}
 use Rattle.blocks.specs.Page.{RequestFits, requestBytes, ResponseFits, responseBytes}
 use Rattle.blocks.specs.Place.{headerOf}
+use Rattle.checker.specs.Check.{checkOf}
 use Rattle.drive.specs.Cycle.{cycleOf}
 use Rattle.part.specs.Layout.{partSize, waitingLength, waiting, withResponse}
 use Rattle.part.specs.Record.{driveOf}
@@ -218,6 +219,24 @@ MergesAsRuled =
     (k : ℕ) (r : Request) (s m : List ℕ)
     → AtRest k s → RequestFits r → length (requestBytes r) ≤ blockLimit → r .axis ≡ k → 244 ≤ length m
     → Merged k r s m
+
+-- Document 02, R-4: "Every response of our own station passes for its request." The block of a reply, after its four bytes
+abbrev pub blockSent : Framed → List ℕ → List ℕ
+blockSent a m = take (a .length - 4) (drop 4 m)
+
+-- what any fetch answers that is done passes for the block of the write before it, whatever may come between,
+abbrev pub FetchedPasses : Type 0
+FetchedPasses =
+    (k : ℕ) (f m s : List ℕ) (between : List Call) (g w : List ℕ) (a : Framed) (w′ : List ℕ)
+    → isWrite f ≡ true → numberIn (answer kinds (frame k f m) s) ≡ 0 → AllOf (Between k) between
+    → isRead g ≡ true → answer kinds (frame k g w) (runEnd (machine kinds) between (after kinds (frame k f m) s)) ≡ toFrame a w′ → a .number ≡ 0
+    → checkOf (blockOf f) (blockSent a w′) ≡ 0
+
+-- and what a merged call answers that is done
+abbrev pub MergedPasses : Type 0
+MergedPasses =
+    (k : ℕ) (f m s : List ℕ) (a : Framed) (w : List ℕ) → answer kinds (exchange k f m) s ≡ toFrame a w → a .number ≡ 0
+    → checkOf (blockOf f) (blockSent a w) ≡ 0
 
 -- What a fetch answers rests on what waits after a block is worked,
 abbrev pub WaitsAsRuled : Type 0
