@@ -1,5 +1,6 @@
-/* The station of document 01, with R-2 and R-3 of 02, in plain C on the same memory as the library: a yardstick for
- * `./llinkhiro bench`, not a product. The face is that of llinkhiro.h under other names, so that one program can hold both. */
+/* The station of document 01, with R-2 and R-3 of 02, in plain C on the same memory as the library, and the checker of R-4: a
+ * yardstick for `./llinkhiro bench`, not a product. The face is that of llinkhiro.h under other names, so that one program can
+ * hold both. */
 #include "llinkhiro.h"
 
 #include <stdbool.h>
@@ -536,4 +537,40 @@ struct llinkhiro_framed plain_exchange(uint8_t *station, size_t station_len, uin
     struct llinkhiro_framed fetched = fetch((struct part *)station + (farm - 1), reply);
     fetched.stored = written.stored;
     return fetched;
+}
+
+/* ---- The checker --------------------------------------------------------------------------------------------- */
+
+/* Whether block k of a readable response has as many values as address k asked, or none. The request is readable too, and
+ * names as many parameters. */
+static bool counts_asked(const uint8_t *request, const uint8_t *response)
+{
+    const uint8_t *address = request + HEADER, *item = response + HEADER;
+
+    for (unsigned left = response[3]; left > 0; left--, address += ADDRESS) {
+        unsigned format = item[0], count = item[1], asked = address[1] == 0 ? 1 : address[1];
+
+        if (format != ERROR && count != asked)
+            return false;
+        item += 2 + filled(format == ERROR ? 2 : count << (format - SIZE_1));
+    }
+    return true;
+}
+
+/* The checks in order; 0 is yes. Of a change no values come back. */
+uint8_t plain_check(const uint8_t *request, size_t request_len, const uint8_t *response, size_t response_len)
+{
+    if (!request_readable(request, request_len))
+        return 1;
+    if (!response_readable(response, response_len))
+        return 2;
+    if (response[0] != request[0])
+        return 3;
+    if (response[2] != request[2])
+        return 4;
+    if (response[3] != request[3])
+        return 5;
+    if ((response[1] & ~FAILED) != request[1])
+        return 6;
+    return request[1] == CHANGE || counts_asked(request, response) ? 0 : 7;
 }

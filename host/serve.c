@@ -4,7 +4,8 @@
  * A call: its kind, five numbers of 32 bits (bytes of the station, farm or axis, flags, bytes of the frame, bytes of the
  * reply), four of 16 (STW1, NSOLL_A, NIST_A, fault), then the station, the frame and the reply memory. All low byte first.
  * Its answer: size (64 bits), rpm (32), status, length and stored (16 each), state and number (8 each), then the station and
- * the reply memory as the call left them. Bytes around both are watched: a call that touches one ends the program. */
+ * the reply memory as the call left them. Bytes around both are watched: a call that touches one ends the program.
+ * A check has its request where the others have the frame, and its response where they have the reply. */
 #include "llinkhiro.h"
 
 #include <stdio.h>
@@ -12,7 +13,7 @@
 #include <string.h>
 
 enum { GUARD = 64, PATTERN = 0xA5, MOST = 1 << 20 };
-enum { SIZE, FRESH, CYCLE, FRAME, EXCHANGE };
+enum { SIZE, FRESH, CYCLE, FRAME, EXCHANGE, CHECK };
 
 /* A memory to lend, with a guard on both sides. */
 struct lent {
@@ -97,6 +98,8 @@ static void serve(unsigned kind)
         f = llinkhiro_frame(station.at, station.len, owner, frame.at, frame.len, reply.at, reply.len);
     else if (kind == EXCHANGE)
         f = llinkhiro_exchange(station.at, station.len, owner, frame.at, frame.len, reply.at, reply.len);
+    else if (kind == CHECK)
+        c.number = llinkhiro_check(frame.at, frame.len, reply.at, reply.len);
     untouched(station);
     untouched(frame);
     untouched(reply);

@@ -3,7 +3,8 @@
  *
  * Two things are done with a station: a control cycle for one axis (llinkhiro_cycle) and a DP-V1 frame from one farm
  * (llinkhiro_frame; llinkhiro_exchange is a write and the fetch of its response in one call). Another call makes the station
- * (llinkhiro_fresh). #include <llinkhiro.h>, and link with -lllinkhiro.
+ * (llinkhiro_fresh). Apart from all stations, llinkhiro_check holds a response block against the request that it answers, of
+ * whatever maker's drive. #include <llinkhiro.h>, and link with -lllinkhiro.
  *
  * MEMORY
  *
@@ -38,6 +39,7 @@
  *   12  cycle flags above 3
  *
  * llinkhiro_fresh gives 0 and 2; llinkhiro_cycle 0, 1, 2 and 12; llinkhiro_frame 0 to 11; llinkhiro_exchange 0 to 8, 10, 11.
+ * llinkhiro_check refuses nothing and has numbers of its own, which stand beside it below.
  */
 #ifndef LLINKHIRO_H
 #define LLINKHIRO_H
@@ -134,6 +136,25 @@ struct llinkhiro_framed llinkhiro_frame(uint8_t *station, size_t station_len, ui
  */
 struct llinkhiro_framed llinkhiro_exchange(uint8_t *station, size_t station_len, uint32_t farm,
                                            const uint8_t *frame, size_t frame_len, uint8_t *reply, size_t reply_len);
+
+/*
+ * Whether a response block answers a request block. Both are blocks, without the four bytes of a frame before them, of any
+ * length and any bytes; no station is needed, and nothing is written. The two may be the same memory or overlap.
+ * Answers 0 for yes; for a no the number of the first check that failed, in this order. They are no refusals.
+ *
+ *    1  the request block is readable (4 to 240 bytes, laid out as llinkhiro_frame takes it)
+ *    2  the response block is readable (4 to 240 bytes, laid out as llinkhiro_frame gives it)
+ *    3  the response has the request's reference
+ *    4  .. the request's axis
+ *    5  .. the request's number of parameters
+ *    6  .. the matching identifier: 01 or 81 to a request (01), 02 or 82 to a change (02)
+ *    7  each of its blocks of values (formats 41 to 43) has as many values as its address asked elements, where 0 elements
+ *       count as 1; a block without values (40 00, or an error) passes
+ *
+ * It knows no parameter: neither a value's size nor what a drive's parameters are is checked. Every response of our own
+ * station, by llinkhiro_frame or llinkhiro_exchange, is a yes for its request.
+ */
+uint8_t llinkhiro_check(const uint8_t *request, size_t request_len, const uint8_t *response, size_t response_len);
 
 #ifdef __cplusplus
 }

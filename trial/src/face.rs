@@ -34,6 +34,7 @@ const FRESH: u8 = 1;
 const CYCLE: u8 = 2;
 const FRAME: u8 = 3;
 const EXCHANGE: u8 = 4;
+const CHECK: u8 = 5;
 
 /// What is sent of a call, beside the memories.
 #[derive(Default)]
@@ -142,6 +143,14 @@ pub fn frame(station: &mut [u8], farm: u32, frame: &[u8], reply: &mut [u8]) -> F
 /// Works one write of a farm and fetches its response.
 pub fn exchange(station: &mut [u8], farm: u32, frame: &[u8], reply: &mut [u8]) -> Framed {
     send(EXCHANGE, station, farm, frame, reply)
+}
+
+/// Holds a response block against a request block: 0 for yes, else the number of the first check that failed.
+pub fn check(request: &[u8], response: &[u8]) -> u8 {
+    let mut lent = response.to_vec();
+    let number = call(CHECK, &Asked::default(), &mut [], request, &mut lent).cycled.number;
+    assert_eq!(lent, response, "a check wrote to the response");
+    number
 }
 
 fn send(kind: u8, station: &mut [u8], farm: u32, frame: &[u8], reply: &mut [u8]) -> Framed {

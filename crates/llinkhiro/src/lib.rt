@@ -1,6 +1,7 @@
 // The calls of a host, exported as one library: each is one call of a crate below, and promises what a host is handed of it. No other
 // crate exports.
 ghost use mathlib.Core.Path.{_≡_};
+ghost use Rattle.checker.specs.Check.{checkOf};
 ghost use Rattle.station.specs.Parts.{stationSize, freshNumber, freshStation};
 ghost use Rattle.station.specs.Isolation.{answer, after};
 ghost use Rattle.station.specs.Calls.{kinds, cycle, frame, exchange};
@@ -69,4 +70,12 @@ pub extern "C" fn llinkhiro_exchange(
     ensures { λ r. ⌜ now (station .exit) ≡ after kinds (exchange farm (now (f .entry)) (now (reply .entry))) (now (station .entry)) ⌝ }
 {
     station::exchange(station, farm, f, reply)
+}
+
+// A response block held against the request block that it answers, apart from all stations.
+#[no_mangle]
+pub extern "C" fn llinkhiro_check(request: &[u8], response: &[u8]) -> u8
+    ensures { λ n. ⌜ n ≡ checkOf (now (request .entry)) (now (response .entry)) ⌝ }
+{
+    checker::check(request, response)
 }
