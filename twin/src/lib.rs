@@ -1,6 +1,6 @@
-//! An independent twin of the station of document 01 (`01-scope.md`) and of of document 02
-//! (`02-change-requests.md`), the season report, the fill byte and the call that sends and fetches in one, as
-//! `docs/DECISIONS.md` reads them.
+//! An independent twin of the station of document 01 (`01-scope.md`) and of of document 02
+//! (`02-change-requests.md`), the season report, the fill byte, the call that sends and fetches in one and the checker of
+//! responses, as `docs/DECISIONS.md` reads them.
 //!
 //! It exists to be compared with another implementation, so it is plain: every rule of the paper stands in one
 //! small function, and every field is public for a harness to set and compare.
@@ -11,6 +11,7 @@
 
 pub mod axis;
 pub mod block;
+pub mod checker;
 pub mod cycle;
 pub mod frame;
 pub mod journal;
@@ -23,6 +24,7 @@ mod tests;
 
 pub use axis::{well_formed, Axis, State, Station, Waiting, AXES, BLOCK_MAX, CODES, SITUATIONS};
 pub use block::{parse_request, parse_response, Address, Item, Request, RequestKind, Response, ResponseKind, Values};
+pub use checker::check;
 pub use cycle::{Cycled, Ran};
 pub use frame::{Framed, REPLY_MIN};
 pub use journal::replay;

@@ -1,7 +1,8 @@
-//! Worked cases of document 01, of of document 02 and of the readings.
+//! Worked cases of document 01, of of document 02 and of the readings.
 
 mod addresses;
 mod blocks;
+mod checker;
 mod cycles;
 mod exchanges;
 mod frames;

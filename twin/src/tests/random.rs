@@ -9,7 +9,7 @@ use crate::{
 };
 
 /// A small generator of its own (xorshift64*).
-struct Random(u64);
+pub struct Random(pub u64);
 
 impl Random {
     fn next(&mut self) -> u64 {
@@ -19,7 +19,7 @@ impl Random {
         self.0.wrapping_mul(0x2545_F491_4F6C_DD1D) >> 16
     }
 
-    fn below(&mut self, limit: u64) -> u64 {
+    pub fn below(&mut self, limit: u64) -> u64 {
         self.next() % limit
     }
 
@@ -35,7 +35,7 @@ impl Random {
 const PNUS: [u16; 17] =
     [930, 944, 947, 965, 9900, 9901, 10100, 10101, 10102, 10103, 10111, 30001, 30002, 30003, 30004, 0, 931];
 
-fn random_block(random: &mut Random, axis: u8) -> Vec<u8> {
+pub fn random_block(random: &mut Random, axis: u8) -> Vec<u8> {
     let change = random.one_in(2);
     let most = if random.one_in(4) { 40 } else { 5 };
     let count = 1 + random.below(most) as u8;
