@@ -31,7 +31,7 @@ pub fn frame(random: &mut Random, axis: u8, waiting: Option<usize>) -> (Sending,
     let merged = random.one_in(if waiting.is_some() { 8 } else { 3 });
     let sending = if merged { Sending::Merged } else { Sending::Alone };
     if random.one_in(40) {
-        return (sending, Kind::Free, free(random));
+        return (sending, Kind::Free, free(random, frame_header));
     }
     let reads = random.percent(if waiting.is_some() && !merged { 80 } else { 8 });
     let (kind, mut frame) = match (reads, sending) {
@@ -280,21 +280,25 @@ fn value(random: &mut Random, (low, high): (i32, i32), right: bool) -> i32 {
     }
 }
 
-/// Any bytes, often behind a header that leads somewhere.
-fn free(random: &mut Random) -> Vec<u8> {
+/// Any bytes, often behind a header that leads somewhere, made for their number.
+pub fn free(random: &mut Random, header: fn(&mut Random, usize) -> [u8; HEADER]) -> Vec<u8> {
     let length = match random.below(6) {
         0 => random.below(5),
         1 => 240 + random.below(12),
         2 => random.below(300),
         _ => 4 + random.below(40),
     };
-    let mut frame: Vec<u8> = (0..length).map(|_| random.byte()).collect();
-    let head = [random.pick(&[0x5E, 0x5F, 0x5F, 0x5D]), 0, 47, length.wrapping_sub(HEADER) as u8];
-    let known = random.below(6).min(4);
-    for (byte, told) in frame.iter_mut().zip(head).take(known) {
+    let mut bytes: Vec<u8> = (0..length).map(|_| random.byte()).collect();
+    let head = header(random, length);
+    let known = random.below(6).min(HEADER);
+    for (byte, told) in bytes.iter_mut().zip(head).take(known) {
         *byte = told;
     }
-    frame
+    bytes
+}
+
+fn frame_header(random: &mut Random, length: usize) -> [u8; HEADER] {
+    [random.pick(&[0x5E, 0x5F, 0x5F, 0x5D]), 0, 47, length.wrapping_sub(HEADER) as u8]
 }
 
 /// One or two of the things that go wrong with a frame.
@@ -307,7 +311,8 @@ fn damage(random: &mut Random, frame: &mut Vec<u8>) {
     }
 }
 
-fn damage_bytes(random: &mut Random, frame: &mut Vec<u8>) {
+/// One of the things that go wrong with bytes, often near their front.
+pub fn damage_bytes(random: &mut Random, frame: &mut Vec<u8>) {
     let length = frame.len();
     let place = random.below(length.max(1));
     let front = random.below(12);

@@ -66,6 +66,16 @@ impl Values {
         Values { format: 0x40, size: 1, values: Vec::new() }
     }
 
+    /// Whether it is an error block.
+    pub fn is_error(&self) -> bool {
+        self.format == 0x44
+    }
+
+    /// Whether it holds values: it is neither an error nor `40 00`.
+    pub fn holds_values(&self) -> bool {
+        !self.is_error() && self.format != 0x40
+    }
+
     fn is_of_bytes(&self) -> bool {
         self.size == 1 && BYTE_FORMATS.contains(&self.format)
     }
@@ -120,6 +130,15 @@ impl Block {
     /// Whether a fill byte is in it.
     pub fn is_filled(&self) -> bool {
         self.values.iter().any(Values::is_filled)
+    }
+
+    /// Where in a response to this request the first block stands whose values are not as many as its address asks; 0 elements
+    /// count as 1.
+    pub fn first_miscounted(&self, response: &Block) -> Option<usize> {
+        let is_wrong = |(address, block): (&Address, &Values)| {
+            block.holds_values() && block.values.len() != usize::from(address.elements.max(1))
+        };
+        self.addresses.iter().zip(&response.values).position(is_wrong)
     }
 
     /// The value blocks of byte formats, in their order.

@@ -9,6 +9,7 @@
 
 pub mod blocks;
 pub mod cases;
+pub mod checks;
 pub mod counts;
 pub mod dissected;
 pub mod face;

@@ -1,5 +1,6 @@
 //! The library and its twin, called alike, and every difference between them.
 
+use crate::checks::Check;
 use crate::face;
 use crate::meaning::{decode, encode, PART, STATION};
 use crate::sending::{in_turn, Sending};
@@ -23,6 +24,8 @@ pub enum Call {
     Cycle(u32, Inputs),
     /// A frame of this farm, how it is sent, and how much reply memory it is lent.
     Frame(u32, Sending, Vec<u8>, usize),
+    /// A check, which is lent no station.
+    Check(Check),
 }
 
 impl Call {
@@ -30,6 +33,12 @@ impl Call {
     pub fn owner(&self) -> Option<usize> {
         let (Call::Cycle(number, _) | Call::Frame(number, ..)) = self else { return None };
         (1..=AXES).find(|owner| *owner as u32 == *number).map(|owner| owner - 1)
+    }
+
+    /// The answer, where it is known before the call.
+    fn known(&self) -> Option<Answer> {
+        let Call::Check(check) = self else { return None };
+        check.known().map(Answer::Check)
     }
 }
 
@@ -45,6 +54,7 @@ impl Display for Call {
             Call::Frame(farm, sending, frame, reply) => {
                 write!(f, "{sending} farm {farm:X} reply memory {reply} frame {}", hex(frame))
             }
+            Call::Check(check) => write!(f, "{check}"),
         }
     }
 }
@@ -58,6 +68,8 @@ pub enum Answer {
     Cycle(Cycled),
     /// The answer of a frame, however it was sent.
     Frame(Framed),
+    /// 0 or the first check that failed.
+    Check(u8),
 }
 
 impl Answer {
@@ -65,10 +77,10 @@ impl Answer {
         Answer::Frame(Framed { length, stored, number })
     }
 
-    /// 0 or the refusal number.
+    /// 0, or the refusal number or that of a check.
     pub fn number(&self) -> u8 {
         match self {
-            Answer::Fresh(number) => *number,
+            Answer::Fresh(number) | Answer::Check(number) => *number,
             Answer::Cycle(cycled) => cycled.number,
             Answer::Frame(framed) => framed.number,
         }
@@ -173,6 +185,9 @@ impl Pair {
         let twin = self.call_twin(call, bytes, pattern);
         let ours = self.call_ours(call, bytes, pattern);
         same_answer("answer", &ours, &twin)?;
+        if let Some(known) = call.known() {
+            same_answer("answer, and what is known of it", &ours, &known)?;
+        }
         same_bytes("reply memory", &self.ours_reply, &self.twin_reply)?;
         match call {
             Call::Fresh if ours.number() == 0 => self.compare_all()?,
@@ -195,6 +210,7 @@ impl Pair {
                 self.ours_reply.fill(pattern);
                 Answer::framed(sending.ours(station, *farm, frame, &mut self.ours_reply[..*reply]))
             }
+            Call::Check(check) => Answer::Check(face::check(&check.request, &check.response)),
         }
     }
 
@@ -219,6 +235,7 @@ impl Pair {
                 }
                 Answer::Frame(sending.twins(&mut self.twin, *farm, frame, &mut self.twin_reply[..*reply]))
             }
+            Call::Check(check) => Answer::Check(twin::check(&check.request, &check.response)),
         }
     }
 

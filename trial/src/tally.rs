@@ -1,6 +1,7 @@
 //! What a run of calls has reached.
 
 use crate::blocks::Kind;
+use crate::checks::Checks;
 use crate::counts::{named, names, place, unmet, Counts, Worked};
 use crate::fills::Fills;
 use crate::merged::Merged;
@@ -22,14 +23,17 @@ pub enum Setting {
     Planted,
     /// Of another size.
     Resized,
+    /// Not at all, since a check takes none.
+    Unlent,
 }
 
-const SETTINGS: [(Setting, &str); 5] = [
+const SETTINGS: [(Setting, &str); 6] = [
     (Setting::Left, "as left by the calls before"),
     (Setting::Altered, "a byte of the own part altered"),
     (Setting::AlteredElsewhere, "a byte of another part altered"),
     (Setting::Planted, "a made-up own part"),
     (Setting::Resized, "of another size"),
+    (Setting::Unlent, "none at all"),
 ];
 const KINDS: [(Kind, &str); 4] =
     [(Kind::Request, "request"), (Kind::Change, "change"), (Kind::Read, "read"), (Kind::Free, "any bytes")];
@@ -79,6 +83,8 @@ pub struct Tally {
     pub fills: Fills,
     /// What was met of merged calls.
     pub merged: Merged,
+    /// What was met of checks.
+    pub checks: Checks,
 }
 
 impl Tally {
@@ -151,6 +157,7 @@ impl Tally {
         missing.extend(unmet(&self.settings, &names(&SETTINGS)).map(|name| format!("memory {name}")));
         missing.extend(self.fills.missing());
         missing.extend(self.merged.missing());
+        missing.extend(self.checks.missing());
         missing
     }
 }
@@ -158,7 +165,9 @@ impl Tally {
 impl Display for Tally {
     fn fmt(&self, f: &mut Formatter) -> fmt::Result {
         let [alone, merged] = [self.alone, self.in_merged].map(|kinds| named(&kinds, &names(&KINDS)));
-        writeln!(f, "calls      cycle {}, frame: {alone}, merged call: {merged}, fresh {}", self.cycles, self.fresh)?;
+        let Tally { cycles, fresh, .. } = self;
+        let checks = self.settings[place(Setting::Unlent, &SETTINGS)];
+        writeln!(f, "calls      cycle {cycles}, frame: {alone}, merged call: {merged}, fresh {fresh}, check {checks}")?;
         writeln!(f, "memory     {}", named(&self.settings, &names(&SETTINGS)))?;
         writeln!(f, "cycles     by number (0 accepted): {}", self.cycle_numbers.list(&CYCLE_NUMBERS))?;
         writeln!(f, "frames     by number (0 accepted): {}", self.frame_numbers.list(&FRAME_NUMBERS))?;
@@ -174,6 +183,6 @@ impl Display for Tally {
         for (name, counts) in self.worked.lines() {
             writeln!(f, "{name:10} {counts}")?;
         }
-        write!(f, "{}{}", self.fills, self.merged)
+        write!(f, "{}{}{}", self.fills, self.merged, self.checks)
     }
 }

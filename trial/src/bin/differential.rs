@@ -6,6 +6,8 @@
 use std::process::ExitCode;
 use std::time::{Duration, Instant};
 use trial::blocks::{self, Kind};
+use trial::checks::{Check, Own};
+use trial::layout::HEADER;
 use trial::meaning::{field_at, response_of, PART, STATION};
 use trial::merged::Made;
 use trial::pair::{hex, Answer, Call, Difference, Pair, GUARD, REPLY_MAX};
@@ -90,6 +92,7 @@ fn run(options: &Options) -> Result<Tally, String> {
         random: Random::new(options.seed),
         pair: Pair::fresh().map_err(|difference| format!("disagreement at the first fresh station: {difference:?}"))?,
         tally: Tally::default(),
+        own: Own::default(),
         altered: 0,
     };
     let start = Instant::now();
@@ -128,6 +131,7 @@ struct Trial {
     random: Random,
     pair: Pair,
     tally: Tally,
+    own: Own,
     altered: usize,
 }
 
@@ -141,6 +145,7 @@ impl Trial {
             170..=219 => self.planted(index)?,
             220..=229 => self.resized(index)?,
             230 if self.random.one_in(50) => self.call(Call::Fresh, STATION, Setting::Left, Kind::Free)?,
+            231..=320 => self.check()?,
             _ => {
                 let (call, kind) = self.make_call(index);
                 self.call(call, STATION, Setting::Left, kind)?;
@@ -222,6 +227,12 @@ impl Trial {
         self.call(call, bytes, Setting::Resized, kind)
     }
 
+    /// A check knows no station, so that it is lent none.
+    fn check(&mut self) -> Result<(), String> {
+        let check = Check::make(&mut self.random, &mut self.own);
+        self.call(Call::Check(check), 0, Setting::Unlent, Kind::Free)
+    }
+
     /// A call of the owner of this part, or seldom of nobody.
     fn make_call(&mut self, index: usize) -> (Call, Kind) {
         let random = &mut self.random;
@@ -277,9 +288,13 @@ impl Trial {
                         let (bytes, in_turn) = (done.bytes, done.in_turn);
                         let reply = &self.pair.reply()[..framed.length.into()];
                         self.tally.merged.count(&Made { sender, bytes, frame, framed, reply, in_turn });
+                        if framed.number == 0 {
+                            self.own.merged(&frame[HEADER..], &reply[HEADER..]);
+                        }
                     }
                 }
             }
+            (Call::Check(check), Answer::Check(number)) => self.tally.checks.count(check, number),
             _ => self.tally.fresh(),
         }
     }
@@ -294,11 +309,13 @@ impl Trial {
             (0, [READ, ..]) => {
                 tally.fills.fetched(response_of(before));
                 tally.merged.fetched(owner, response_of(before));
+                self.own.fetched(owner, response_of(before));
             }
             (0, [_, _, _, _, block @ ..]) => {
                 let response = response_of(self.pair.axis(owner));
                 tally.worked.count(response, framed.stored);
                 tally.fills.worked(block, response);
+                self.own.written(owner, block, response);
             }
             _ => {}
         }
