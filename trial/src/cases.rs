@@ -7,6 +7,7 @@
 //! - `cycle AXIS FLAGS STW1 NSOLL NIST FAULT -> STATE ZSW1 RPM`, or `-> x NUMBER` for a refused one;
 //! - `frame FARM BYTES -> NUMBER STORED REPLY`; bytes in hex, `N*BYTES` repeats, `-` is none;
 //! - `exchange FARM BYTES -> NUMBER STORED REPLY`, the merged call, in the same way;
+//! - `check BYTES : BYTES -> NUMBER`, a request block and a response block: 0 for yes, or the first check that failed;
 //! - `reply N`: the reply memory of the frames and merged calls that follow has N bytes (244 at first);
 //! - `memory N`: the memory lent from here on is N bytes longer than a station's (-1: one shorter);
 //! - `fill K BYTE`: every byte of the K-th of the 16 equal parts becomes BYTE;
@@ -42,6 +43,7 @@ pub struct Line {
 pub enum Step {
     Cycle { input: Cycle, wanted: CycleAnswer },
     Frame { farm: u32, sending: Sending, frame: Vec<u8>, wanted: FrameAnswer },
+    Check { request: Vec<u8>, response: Vec<u8>, number: u8 },
     Fresh { number: u8 },
     Reply { size: usize },
     Memory { longer: isize },
@@ -175,17 +177,15 @@ fn read_step(key: &str, rest: &str) -> Result<Step, String> {
         Some(at) => (&words[..at], &words[at + 1..]),
         None => (&words[..], &[][..]),
     };
-    if arrow.is_some() != matches!(key, "cycle" | "frame" | "exchange" | "fresh") {
+    if arrow.is_some() != matches!(key, "cycle" | "frame" | "exchange" | "check" | "fresh") {
         return Err("\"->\" is missing or out of place".to_string());
     }
     match (key, asked) {
         ("cycle", asked) => Ok(Step::Cycle { input: read_cycle(asked)?, wanted: read_cycle_answer(wanted)? }),
         ("frame", asked) => read_frame(Sending::Alone, asked, wanted),
         ("exchange", asked) => read_frame(Sending::Merged, asked, wanted),
-        ("fresh", []) => match wanted {
-            [number] => Ok(Step::Fresh { number: read_number(number)? }),
-            _ => Err("expected one number".to_string()),
-        },
+        ("check", asked) => read_check(asked, wanted),
+        ("fresh", []) => Ok(Step::Fresh { number: read_only_number(wanted)? }),
         ("reply", [size]) => Ok(Step::Reply { size: read_number(size)? }),
         ("memory", [longer]) => match read_number::<isize>(longer)? {
             longer if longer.unsigned_abs() <= SPARE => Ok(Step::Memory { longer }),
@@ -203,6 +203,15 @@ fn read_frame(sending: Sending, asked: &[&str], wanted: &[&str]) -> Result<Step,
     let [farm, frame @ ..] = asked else { return Err("expected a farm and its frame".to_string()) };
     let (farm, frame) = (read_number(farm)?, read_bytes(frame)?);
     Ok(Step::Frame { farm, sending, frame, wanted: read_frame_answer(wanted)? })
+}
+
+fn read_check(asked: &[&str], wanted: &[&str]) -> Result<Step, String> {
+    let blocks: Vec<&[&str]> = asked.split(|word| *word == ":").collect();
+    let [request, response] = blocks.as_slice() else {
+        return Err("expected a request block, \":\" and a response block".to_string());
+    };
+    let (request, response) = (read_bytes(request)?, read_bytes(response)?);
+    Ok(Step::Check { request, response, number: read_only_number(wanted)? })
 }
 
 fn read_cycle(words: &[&str]) -> Result<Cycle, String> {
@@ -247,6 +256,13 @@ fn read_frame_answer(words: &[&str]) -> Result<FrameAnswer, String> {
             Ok(FrameAnswer { number: read_number(number)?, stored: read_number(stored)?, reply: read_bytes(reply)? })
         }
         _ => Err("expected NUMBER STORED REPLY".to_string()),
+    }
+}
+
+fn read_only_number(words: &[&str]) -> Result<u8, String> {
+    match words {
+        [number] => read_number(number),
+        _ => Err("expected one number".to_string()),
     }
 }
 
@@ -312,6 +328,27 @@ mod tests {
     fn merged_calls_that_are_cut() {
         for line in ["exchange 1 5F002F00", "exchange 1 -> 4 0 -", "exchange -> 4 0 -", "exchange 1 5F -> 4 0"] {
             assert!(read_cases(&format!("case cut\n{line}\n")).is_err(), "{line}");
+        }
+    }
+
+    #[test]
+    fn checks() {
+        let text = "case checks\ncheck 0101 2*02 : 0181 -> 3\ncheck - : - -> 1\n";
+        let cases = read_cases(text).unwrap();
+        let told = |line: &Line| match &line.step {
+            Step::Check { request, response, number } => (request.clone(), response.clone(), *number),
+            _ => panic!("line {}", line.number),
+        };
+        let read: Vec<_> = cases[0].steps.iter().map(told).collect();
+        assert_eq!(read, [(vec![1, 1, 2, 2], vec![1, 0x81], 3), (vec![], vec![], 1)]);
+    }
+
+    #[test]
+    fn checks_that_are_cut() {
+        let lines =
+            ["01 : 02", "01 02 -> 0", "01:02 -> 0", ": 02 -> 0", "01 : -> 0", "01 : 02 : 03 -> 0", "01 : 02 ->"];
+        for line in lines.into_iter().chain(["01 : 02 -> 0 0", "-> 0"]) {
+            assert!(read_cases(&format!("case cut\ncheck {line}\n")).is_err(), "{line}");
         }
     }
 }

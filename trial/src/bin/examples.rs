@@ -1,21 +1,22 @@
-//! Plays written examples on the station and compares every answer.
+//! Plays written examples on the station and compares every answer, and what the checker says of written pairs of blocks.
 //!
 //! Usage: `play-examples FILE...`; what the files hold is said in `cases.rs`.
 //!
 //! Beyond the written answers these hold for every step: bytes of the reply memory past the reply stay as they were,
 //! a refusal leaves the whole memory as it was, an answered call changes the caller's part alone, a refused cycle answers
-//! zeros, and a merged call comes to the same as the library's own write and fetch in turn, reply and memory included.
+//! zeros, and a merged call comes to the same as the library's own write and fetch in turn, reply and memory included. And
+//! every response that the station gave, by a fetch or a merged call, passes the checker for its request.
 
 #![forbid(unsafe_code)]
 
-use std::collections::HashSet;
+use std::collections::{HashMap, HashSet};
 use std::process::ExitCode;
 use std::{env, fmt, fs};
 
 use trial::cases::{read_cases, Case, Cycle, CycleAnswer, FrameAnswer, Line, Step, PARTS, SPARE};
 use trial::face::{self, Cycled, Framed};
 use trial::pair::hex;
-use trial::sending::{in_turn, Sending};
+use trial::sending::{in_turn, Sending, WRITE};
 
 const SPARE_BYTE: u8 = 0x5A;
 const REPLY_BYTE: u8 = 0xA5;
@@ -35,11 +36,16 @@ struct Bench {
     size: usize,
     lent: usize,
     reply_size: usize,
+    /// Of each farm, the request whose response waits.
+    asked: HashMap<u32, Vec<u8>>,
+    /// Responses that were held against their requests.
+    checked: usize,
 }
 
 impl Bench {
     fn new(size: usize) -> Bench {
-        Bench { memory: vec![SPARE_BYTE; size + SPARE], size, lent: size, reply_size: REPLY_SIZE }
+        let memory = vec![SPARE_BYTE; size + SPARE];
+        Bench { memory, size, lent: size, reply_size: REPLY_SIZE, asked: HashMap::new(), checked: 0 }
     }
 
     fn play(&mut self, steps: &[Line]) -> Result<(), Failure> {
@@ -73,8 +79,10 @@ impl Bench {
             Step::Frame { farm, sending, frame, wanted } => {
                 let number = self.frame(|station, reply| sending.ours(station, *farm, frame, reply), wanted)?;
                 self.untouched(&before, number, *farm)?;
-                self.same_in_turn(before, step)
+                self.same_in_turn(before, step)?;
+                self.own_response(step)
             }
+            Step::Check { request, response, number } => compare(number, &face::check(request, response)),
             Step::Fresh { number } => self.fresh(&before, *number),
             Step::Reply { size } => {
                 self.reply_size = *size;
@@ -124,10 +132,27 @@ impl Bench {
     /// On the memory before a merged call, the library's own calls in turn answer the same and leave the same.
     fn same_in_turn(&self, before: Vec<u8>, step: &Step) -> Result<(), (String, String)> {
         let Step::Frame { farm, sending: Sending::Merged, frame, wanted } = step else { return Ok(()) };
-        let mut other = Bench { memory: before, ..*self };
+        let mut other = Bench { memory: before, asked: HashMap::new(), ..*self };
         let done = other.frame(|station, reply| in_turn(station, *farm, frame, reply), wanted);
         done.and_then(|_| self.same(&other.memory, 0..self.memory.len()))
             .map_err(|(expected, got)| (format!("beside two calls in turn {expected}"), got))
+    }
+
+    /// A response that the station gave passes for its request: the merged call's own, or what the farm wrote last.
+    fn own_response(&mut self, step: &Step) -> Result<(), (String, String)> {
+        let Step::Frame { farm, sending, frame, wanted } = step else { return Ok(()) };
+        let (0, [function, _, _, _, block @ ..]) = (wanted.number, frame.as_slice()) else { return Ok(()) };
+        let request = match (sending, *function) {
+            (Sending::Merged, _) => block.to_vec(),
+            (Sending::Alone, WRITE) => {
+                self.asked.insert(*farm, block.to_vec());
+                return Ok(());
+            }
+            (Sending::Alone, _) => self.asked.remove(farm).unwrap_or_default(),
+        };
+        self.checked += 1;
+        compare(&0, &face::check(&request, wanted.reply.get(4..).unwrap_or_default()))
+            .map_err(|(expected, got)| (format!("from the checker {expected}"), got))
     }
 
     /// A refusal changes nothing; an answered call changes the caller's part alone.
@@ -159,11 +184,51 @@ fn compare<A: PartialEq + fmt::Display>(wanted: &A, got: &A) -> Result<(), (Stri
     }
 }
 
-fn play_case(case: &Case, size: usize) -> Result<(), Failure> {
+/// Plays a case: how many responses were checked.
+fn play_case(case: &Case, size: usize) -> Result<usize, Failure> {
     let mut bench = Bench::new(size);
     let start = Line { number: 0, asked: "fresh".to_string(), step: Step::Fresh { number: 0 } };
     bench.play(&[start])?;
-    bench.play(&case.steps)
+    bench.play(&case.steps)?;
+    Ok(bench.checked)
+}
+
+/// What the files came to.
+#[derive(Default)]
+struct Tally {
+    names: HashSet<String>,
+    played: usize,
+    checked: usize,
+    failed: usize,
+    unread: usize,
+}
+
+impl Tally {
+    fn file(&mut self, file: &str, size: usize) {
+        match fs::read_to_string(file).map_err(|error| error.to_string()).and_then(|text| read_cases(&text)) {
+            Ok(cases) => cases.iter().for_each(|case| self.case(file, case, size)),
+            Err(why) => {
+                println!("{file}: {why}");
+                self.unread += 1;
+            }
+        }
+    }
+
+    fn case(&mut self, file: &str, case: &Case, size: usize) {
+        self.played += 1;
+        if !self.names.insert(case.name.clone()) {
+            println!("{file}: case {}: the name stands twice", case.name);
+            self.failed += 1;
+            return;
+        }
+        match play_case(case, size) {
+            Ok(checked) => self.checked += checked,
+            Err(Failure { line, asked, expected, got }) => {
+                println!("{file}: case {}, line {line}, {asked}: expected {expected}, got {got}", case.name);
+                self.failed += 1;
+            }
+        }
+    }
 }
 
 fn main() -> ExitCode {
@@ -173,30 +238,12 @@ fn main() -> ExitCode {
         eprintln!("usage: play-examples FILE... (a station has {size} bytes, which must be 16 equal parts)");
         return ExitCode::FAILURE;
     }
-    let (mut played, mut failed, mut unread) = (0, 0, 0);
-    let mut names = HashSet::new();
+    let mut tally = Tally::default();
     for file in &files {
-        let cases = match fs::read_to_string(file).map_err(|error| error.to_string()).and_then(|text| read_cases(&text))
-        {
-            Ok(cases) => cases,
-            Err(why) => {
-                println!("{file}: {why}");
-                unread += 1;
-                continue;
-            }
-        };
-        for case in &cases {
-            played += 1;
-            if !names.insert(case.name.clone()) {
-                println!("{file}: case {}: the name stands twice", case.name);
-                failed += 1;
-            } else if let Err(Failure { line, asked, expected, got }) = play_case(case, size) {
-                println!("{file}: case {}, line {line}, {asked}: expected {expected}, got {got}", case.name);
-                failed += 1;
-            }
-        }
+        tally.file(file, size);
     }
-    println!("{played} examples, {failed} failed");
+    let Tally { played, checked, failed, unread, .. } = tally;
+    println!("{played} examples, {failed} failed; {checked} responses of the station checked for their requests");
     match failed + unread {
         0 => ExitCode::SUCCESS,
         _ => ExitCode::FAILURE,
