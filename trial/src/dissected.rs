@@ -15,26 +15,27 @@ pub const PROFIDRIVE: &str = "pn_io.profidrive.";
 /// Where Wireshark finds fault with a packet.
 pub const FAULT: &str = "_ws.expert.severity";
 
-const REFERENCE: &str = "pn_io.profidrive.parameter.request_reference";
-const REQUEST_ID: &str = "pn_io.profidrive.parameter.request_id";
-const RESPONSE_ID: &str = "pn_io.profidrive.parameter.response_id";
-const DO: &str = "pn_io.profidrive.parameter.do";
-const PARAMETERS: &str = "pn_io.profidrive.parameter.no_of_parameters";
+pub(crate) const REFERENCE: &str = "pn_io.profidrive.parameter.request_reference";
+pub(crate) const REQUEST_ID: &str = "pn_io.profidrive.parameter.request_id";
+pub(crate) const RESPONSE_ID: &str = "pn_io.profidrive.parameter.response_id";
+pub(crate) const DO: &str = "pn_io.profidrive.parameter.do";
+pub(crate) const PARAMETERS: &str = "pn_io.profidrive.parameter.no_of_parameters";
 const ATTRIBUTE: &str = "pn_io.profidrive.parameter.attribute";
-const ELEMENTS: &str = "pn_io.profidrive.parameter.no_of_elems";
+pub(crate) const ELEMENTS: &str = "pn_io.profidrive.parameter.no_of_elems";
 const PNU: &str = "pn_io.profidrive.parameter.number";
 const SUB_INDEX: &str = "pn_io.profidrive.parameter.index";
-const FORMAT: &str = "pn_io.profidrive.parameter.format";
-const VALUES: &str = "pn_io.profidrive.parameter.no_of_values";
+pub(crate) const FORMAT: &str = "pn_io.profidrive.parameter.format";
+pub(crate) const VALUES: &str = "pn_io.profidrive.parameter.no_of_values";
 const BYTE: &str = "pn_io.profidrive.parameter.value_b";
 const WORD: &str = "pn_io.profidrive.parameter.value_w";
 const DOUBLE: &str = "pn_io.profidrive.parameter.value_dw";
-const ERROR: &str = "pn_io.profidrive.parameter.error_num";
+pub(crate) const ERROR: &str = "pn_io.profidrive.parameter.error_num";
+pub(crate) const RECORD_LENGTH: &str = "pn_io.record_data_length";
 
 /// Of a value whose format Wireshark does not know.
 const INVALID: &str = "pn_io.profidrive.parameter.format.invalid";
 /// Wireshark's words for what follows the end of a response: no field's name, but each byte is taken here as a field.
-const LEFT_OVER: &str = "Long frame";
+pub(crate) const LEFT_OVER: &str = "Long frame";
 
 /// Fields of PROFIdrive that are no number; they are looked at because we never send what should be read so.
 const NO_NUMBER: [&str; 3] =
@@ -74,12 +75,12 @@ const NUMBERS: [&str; 34] = [
     "pn_io.slot_nr",
     "pn_io.subslot_nr",
     "pn_io.index",
-    "pn_io.record_data_length",
+    RECORD_LENGTH,
     "pn_io.add_val1",
 ];
 
 /// The error, "only single parameters", at which Wireshark takes a response to end.
-const SINGLE_ONLY: u16 = 0x23;
+pub(crate) const SINGLE_ONLY: u16 = 0x23;
 const WARNING: u32 = 0x60_0000;
 
 /// What Wireshark makes of a block.

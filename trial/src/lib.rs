@@ -15,6 +15,7 @@ pub mod dissected;
 pub mod face;
 pub mod fills;
 pub mod journal;
+pub mod judged;
 pub mod layout;
 pub mod meaning;
 pub mod merged;

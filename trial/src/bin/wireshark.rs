@@ -9,13 +9,21 @@
 //! - the library's own responses, to those requests and to the journals: the twin's answer to the same call, as the twin
 //!   reads it. A merged call that is done stands in the capture as its write and its fetch: the twin's answers to these two;
 //! - the requests of journals, and the examples with the answers written there: what the twin reads. Nothing here makes
-//!   their bytes, and the twin's reader is neither the library's nor Wireshark's.
+//!   their bytes, and the twin's reader is neither the library's nor Wireshark's;
+//! - the pairs of the examples' checks, each as a request and its response in a capture of its own: the number written there.
 //!
 //! Of each packet these are compared, in their order, and nothing else may stand between them: both checksums and
 //! addresses, both sequence numbers, operation, status, block type, slot, subslot, index, record length, elements stored,
 //! and every PROFIdrive field: reference, identifier, axis, number of parameters; each attribute, number of elements, PNU
 //! and sub-index; each format, number of values and value; each error number. Wireshark may find no fault with the packet
 //! but those named below.
+//!
+//! Of a pair the number is compared with what the seven checks of R-4 come to by the fields that Wireshark reads of it, and
+//! by nothing else. Checks 3 to 7: references, identifiers, axes and numbers of parameters, the elements asked, and format
+//! and number of values of each block. A block is not readable, checks 1 and 2, where Wireshark finds a fault with it
+//! (malformed, an invalid format, a "Long frame" other than a fill byte). It finds none with reference 0, an unknown
+//! identifier or a byte left over behind a request, say: there one of those fields is none of a readable block, or they do
+//! not make up the record's length.
 //!
 //! Not compared:
 //!
@@ -32,11 +40,17 @@
 //!   makes a write divisible by four. At the end of a response it is a "Long frame", and is compared: one byte, a zero;
 //! - of a block that is not readable, and of a frame whose length byte is wrong: all but the packet's header, since
 //!   Wireshark stops somewhere in it and nothing was meant;
-//! - frames of a farm over 255, which only a caller in C can send: a capture has no place for its number.
+//! - frames of a farm over 255, which only a caller in C can send: a capture has no place for its number;
+//! - of a pair, what is hidden by the above: what follows a fill byte in the middle of a block, but for the next format, and
+//!   what follows an error 23, so that neither the counts there are shown nor that the block is readable to its end; and
+//!   whether a fill byte at the end of a request is a zero. Then several numbers are left, and the one that is written must be
+//!   among them;
+//! - pairs with a block over 255 bytes: a frame's length byte has no place for its length.
 //!
 //! That a mistake would be seen is tried at the end: every byte of some blocks is altered, one in each packet, and each
 //! must be told from what was meant. Of blocks with a fill byte only what Wireshark shows is altered: that byte too where it
-//! is a format to it or left over, but not at the end of a request, and nothing that follows it and the next format.
+//! is a format to it or left over, but not at the end of a request, and nothing that follows it and the next format. Of some
+//! pairs that pass, every other number is said, and every byte is altered: those that decide must be noticed, and no others.
 
 #![forbid(unsafe_code)]
 #![deny(warnings)]
@@ -48,6 +62,7 @@ use std::process::ExitCode;
 use trial::cases::{logical_lines, read_bytes, read_cases, Line, Step};
 use trial::dissected::{self, fields_of_request, seen_in_request, seen_in_response, Field, FAULT, PROFIDRIVE};
 use trial::journal::{self, Next, Record};
+use trial::judged::{self, altered, Pair};
 use trial::layout::{Block, Values, BYTE_FORMATS};
 use trial::packets::{Answered, Capture};
 use trial::random::Random;
@@ -92,8 +107,11 @@ fn run(folder: &Path, journal: &str, journals: &str, examples: &[String]) -> Res
     bench.every_request()?;
     bench.made_up_requests()?;
     bench.responses()?;
+    let pairs = std::mem::take(&mut bench.pairs);
     let same = bench.report()?;
-    Ok(planted(folder.join("planted.pcap"))? && same)
+    let found = planted(folder.join("planted.pcap"))?;
+    let agreed = judged::agree(&folder.join("pairs.pcap"), pairs)?;
+    Ok(judged::planted(&folder.join("planted-pairs.pcap"))? && agreed && found && same)
 }
 
 /// What a packet was meant to say.
@@ -192,6 +210,7 @@ struct Bench {
     requests: usize,
     responses: usize,
     left_out: usize,
+    pairs: Vec<Pair>,
     library: Vec<u8>,
     twin: Station,
 }
@@ -209,6 +228,7 @@ impl Bench {
             requests: 0,
             responses: 0,
             left_out: 0,
+            pairs: Vec::new(),
             library,
             twin,
         })
@@ -309,6 +329,11 @@ impl Bench {
                     let (number, stored, reply) = (wanted.number, wanted.stored, wanted.reply.clone());
                     let answered = Answered { record: 0, farm, frame: frame.clone(), number, stored, reply };
                     self.add(case, answered.by(*sending).into_iter().map(Meaning::of_example).collect())?;
+                }
+                Step::Check { request, response, number } => {
+                    let what = format!("{case}, line {}", line.number);
+                    let (request, response) = (request.clone(), response.clone());
+                    self.pairs.push(Pair { what, request, response, number: *number });
                 }
                 _ => {}
             }
@@ -466,12 +491,6 @@ fn found_all(compared: Vec<(Meant, Vec<String>)>) -> bool {
     }
     println!("{} mistakes planted, each one byte of a block: {all} found", found.len());
     all == found.len()
-}
-
-fn altered(bytes: &[u8], at: usize) -> Vec<u8> {
-    let mut bytes = bytes.to_vec();
-    bytes[at] ^= 1;
-    bytes
 }
 
 /// A fetch that is answered with these bytes, where this block was meant.
