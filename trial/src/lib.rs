@@ -7,6 +7,7 @@
 #![deny(warnings)]
 #![deny(missing_docs)]
 
+pub mod answers;
 pub mod blocks;
 pub mod cases;
 pub mod checks;
