@@ -4,7 +4,8 @@
  * Each call is made on memories of its own with guard bytes of a known pattern on both sides, and everything is checked
  * after it: the answer, the reply, the reply memory past it, the frame, the station and all guards. A refused call must
  * leave the whole station as it was, an accepted one every part but its own. Every frame is sent by the merged call
- * too, on a copy of the station; where the write is accepted, it is held against the write and a fetch in turn.
+ * too, on a copy of the station; where the write is accepted, it is held against the write and a fetch in turn. Every
+ * response to a merged call is then checked for its request, and must pass.
  *
  *   test       names what failed, counts each group, and ends with `N checks, M failed`
  *   test -v    names every check
@@ -102,6 +103,14 @@ static struct bytes hex(const char *text)
     return bytes;
 }
 
+/* The block of a frame or a reply: what stands after the four bytes of its header. */
+static struct bytes block_of(struct bytes framed)
+{
+    framed.len = framed.len < 4 ? 0 : framed.len - 4;
+    memmove(framed.at, framed.at + 4, framed.len);
+    return framed;
+}
+
 /* ---- Lent memory --------------------------------------------------------------------------------------------- */
 
 struct memory {
@@ -178,6 +187,16 @@ static uint8_t *start(const struct memory *lent)
     return lent->all + lent->before;
 }
 
+/* Memory with these bytes in it, and zeros after them. */
+static struct memory lend_bytes(const struct bytes *bytes, size_t zeros)
+{
+    struct memory lent = lend(bytes->len + zeros);
+
+    memset(start(&lent), 0, lent.len);
+    memcpy(start(&lent), bytes->at, bytes->len);
+    return lent;
+}
+
 static uint8_t *copy_of(const struct memory *lent)
 {
     uint8_t *copy = memory_or_stop(lent->len);
@@ -210,6 +229,16 @@ static const char read_marks[] = "5F 00 2F 0A  08 01 01 01  10 04 75 31 00 00";
 /* Farm 2 writes its mark 0, to 2000. */
 static const char mark_of_farm_2[] = "5F 00 2F 0E  07 02 02 01  10 01 75 31 00 00  42 01 07 D0";
 static const char fetch[] = "5E 00 2F F0";
+
+/* ---- Blocks used in many places ------------------------------------------------------------------------------ */
+
+/* A request of one element and its response. */
+static const char request_block[] = "07 01 01 01  10 01 03 A2 00 00";
+static const char response_block[] = "07 01 01 01  42 01 00 01";
+/* A change of one element and its two responses: done, and not done. */
+static const char change_block[] = "07 02 01 01  10 01 75 31 00 00  42 01 03 E8";
+static const char done_block[] = "07 02 01 01";
+static const char failed_block[] = "07 82 01 01  44 01 00 02";
 
 /* ---- Calls, each with all that must hold after it ------------------------------------------------------------ */
 
@@ -297,10 +326,7 @@ typedef struct llinkhiro_framed frame_call(uint8_t *station, size_t station_len,
 
 static void send_by(frame_call *call, const char *name, struct sending s)
 {
-    struct memory frame = lend(s.frame.len + s.more), reply = lend(s.reply_len);
-
-    memset(start(&frame), 0, frame.len);
-    memcpy(start(&frame), s.frame.at, s.frame.len);
+    struct memory frame = lend_bytes(&s.frame, s.more), reply = lend(s.reply_len);
     uint8_t *frame_before = copy_of(&frame), *reply_before = copy_of(&reply), *before = copy_of(&station);
     struct llinkhiro_framed got =
         call(start(&station), station.len, s.farm, start(&frame), frame.len, start(&reply), reply.len);
@@ -341,9 +367,56 @@ static void send_told(frame_call *call, const char *how, const char *name, struc
     send_by(call, title, s);
 }
 
+struct pair { /* a request block and a response block, each with zeros after its bytes, and what their check answers */
+    struct bytes request;
+    size_t request_zeros;
+    struct bytes response;
+    size_t response_zeros;
+    uint8_t number;
+};
+
+static void check_pair(const char *name, struct pair p)
+{
+    struct memory request = lend_bytes(&p.request, p.request_zeros);
+    struct memory response = lend_bytes(&p.response, p.response_zeros);
+    uint8_t *request_before = copy_of(&request), *response_before = copy_of(&response);
+    uint8_t got = llinkhiro_check(start(&request), request.len, start(&response), response.len);
+
+    check_number(name, "number of the check", got, p.number);
+    check_bytes(name, "request unchanged", start(&request), request_before, request.len);
+    check(name, "guards of the request", guards_kept(&request));
+    check_bytes(name, "response unchanged", start(&response), response_before, response.len);
+    check(name, "guards of the response", guards_kept(&response));
+    give_back(&request);
+    give_back(&response);
+    free(request_before);
+    free(response_before);
+}
+
+/* The common case: nothing after the blocks. */
+static void pair_of(const char *name, struct bytes request, struct bytes response, uint8_t number)
+{
+    check_pair(name, (struct pair){ request, 0, response, 0, number });
+}
+
+static void pair(const char *name, const char *request, const char *response, uint8_t number)
+{
+    pair_of(name, hex(request), hex(response), number);
+}
+
+/* a response of our own passes for its request. A block that number 10 refused fails check 1 with any response. */
+static void check_response(const char *name, const struct sending *s)
+{
+    if (s->number == 0)
+        pair_of(name, block_of(s->frame), block_of(s->reply), 0);
+    if (s->number == 10)
+        pair_of(name, block_of(s->frame), hex(response_block), 1);
+}
+
 static void exchange_sent(const char *name, struct sending s)
 {
     send_told(llinkhiro_exchange, "merged call", name, s);
+    check_response(name, &s);
 }
 
 /* The merged call of a frame, from its answer by llinkhiro_frame. R-3: a read is 4, after 1 to 3; a refused write is
@@ -541,7 +614,7 @@ static void flags(void)
               (struct turn){ .axis = 3, .flags = high[i], .stw1 = 0x047F, .number = 12 });
 }
 
-/* Sets of refusal numbers that a call deserves: bit k stands for number k. */
+/* Sets of refusal numbers that a call deserves, or of checks that a pair fails: bit k stands for number k. */
 static bool has(unsigned set, unsigned number)
 {
     return set >> number & 1;
@@ -1316,7 +1389,420 @@ static void faults(void)
           "5E 00 2F 14  0E 01 01 04  42 01 04 FE  42 01 FF FE  42 01 03 31  42 01 FF FD");
 }
 
-/* Memory that starts at any address: all three at each offset from an aligned one. */
+/* Yes, and checks 1, 2 and 7, by hand. Block k is held against address k, and an error counts nothing. */
+static void checked_by_hand(void)
+{
+    static const char four[] =
+        "07 01 01 04  10 01 75 31 00 00  10 02 75 31 00 00  10 03 75 31 00 00  10 00 75 31 00 00";
+
+    pair("a value", request_block, response_block, 0);
+    pair("an error", request_block, "07 81 01 01  44 01 00 00", 0);
+    pair("a change done", change_block, done_block, 0);
+    pair("a change not done", change_block, failed_block, 0);
+    pair("a change half done", "07 02 01 02  10 02 75 31 00 00  10 01 75 31 00 02  42 02 00 01 00 02  42 01 0B B9",
+         "07 82 01 02  40 00  44 01 00 02", 0);
+    pair("1: two empty blocks", "", "", 1);
+    pair("1: a response for a request", response_block, response_block, 1);
+    pair("2: a request for a response", request_block, request_block, 2);
+    pair("7: two values for one", request_block, "07 01 01 01  42 02 00 01 00 02", 7);
+    pair("four counts", four, "07 01 01 04  41 01 05 00  42 02 00 01 00 02  41 03 01 02 03 00  42 01 00 01", 0);
+    pair("7: 2 1 3 1", four, "07 01 01 04  42 02 00 01 00 02  41 01 05 00  41 03 01 02 03 00  42 01 00 01", 7);
+    pair("7: 1 3 2 1", four, "07 01 01 04  41 01 05 00  41 03 01 02 03 00  42 02 00 01 00 02  42 01 00 01", 7);
+    pair("7: 1 2 1 3", four, "07 01 01 04  41 01 05 00  42 02 00 01 00 02  42 01 00 01  41 03 01 02 03 00", 7);
+    pair("an error for two", four, "07 81 01 04  41 01 05 00  44 01 00 03  41 03 01 02 03 00  42 01 00 01", 0);
+    pair("errors for all", four, "07 81 01 04  44 01 00 00  44 01 FF FF  44 01 00 03  44 01 00 16", 0);
+    pair("7: two for three after errors", four, "07 81 01 04  44 01 00 00  44 01 00 03  41 02 01 02  42 01 00 01", 7);
+    pair("7: two for one before errors", four, "07 81 01 04  41 02 01 02  44 01 00 03  44 01 00 03  44 01 00 03", 7);
+}
+
+/* Checks 3 to 6 by hand, each with every identifier of a response. */
+static void checked_headers(void)
+{
+    pair("3: in 01", request_block, "08 01 01 01  42 01 00 01", 3);
+    pair("3: in 81", request_block, "08 81 01 01  44 01 00 02", 3);
+    pair("3: in 02", change_block, "08 02 01 01", 3);
+    pair("3: in 82", change_block, "08 82 01 01  44 01 00 02", 3);
+    pair("4: in 01", request_block, "07 01 02 01  42 01 00 01", 4);
+    pair("4: in 81", request_block, "07 81 02 01  44 01 00 02", 4);
+    pair("4: in 02", change_block, "07 02 02 01", 4);
+    pair("4: in 82", change_block, "07 82 02 01  44 01 00 02", 4);
+    pair("5: in 01", request_block, "07 01 01 02  42 01 00 01  42 01 00 01", 5);
+    pair("5: in 81", request_block, "07 81 01 02  42 01 00 01  44 01 00 02", 5);
+    pair("5: in 02", change_block, "07 02 01 02", 5);
+    pair("5: in 82", change_block, "07 82 01 02  40 00  44 01 00 02", 5);
+    pair("6: 01 to a change", change_block, response_block, 6);
+    pair("6: 81 to a change", change_block, "07 81 01 01  44 01 00 02", 6);
+    pair("6: 02 to a request", request_block, done_block, 6);
+    pair("6: 82 to a request", request_block, failed_block, 6);
+}
+
+/* What the checker does not look at: what a parameter is, how large its values are, and what a change sends. */
+static void not_checked(void)
+{
+    pair("an address of nothing", "07 01 01 01  FF 01 FF FF FF FF", response_block, 0);
+    pair("a byte for a word", request_block, "07 01 01 01  41 01 05 00", 0);
+    pair("a double word for a word", request_block, "07 01 01 01  43 01 00 00 00 05", 0);
+    pair("no element of an array", "07 01 01 01  10 00 75 31 00 00", response_block, 0);
+    pair("three values for two elements", "07 02 01 01  10 02 75 31 00 00  06 03 00 01 00 02 00 03", done_block, 0);
+    pair("no value for two elements", "07 02 01 01  10 02 75 31 00 00  42 00", done_block, 0);
+    pair("two elements not done", "07 02 01 01  10 02 75 31 00 00  06 02 00 01 00 02", failed_block, 0);
+}
+
+/* Check 2 by layouts that no response has. */
+static void unreadable_responses(void)
+{
+    static const char two[] = "07 01 01 02  10 01 03 C5 00 00  10 01 03 A2 00 00";
+    struct bytes forty = hex("07 81 01 28");
+
+    pair("2: no parameter", request_block, "07 01 01 00", 2);
+    pair("2: a change of no parameter", change_block, "07 02 01 00", 2);
+    add_times(&forty, 40, "44 01 00 00");
+    pair_of("2: 40 parameters", hex(request_block), forty, 2);
+    pair("2: an error in 01", request_block, "07 01 01 01  44 01 00 00", 2);
+    pair("2: 40 00 in 01", request_block, "07 01 01 01  40 00", 2);
+    pair("2: no error in 81", request_block, "07 81 01 01  42 01 00 01", 2);
+    pair("2: 40 00 in 81", two, "07 81 01 02  40 00  44 01 00 00", 2);
+    pair("2: a block in 02", change_block, "07 02 01 01  40 00", 2);
+    pair("2: a value in 82", two, "07 82 01 02  42 01 00 01  44 01 00 00", 2);
+    pair("2: no error in 82", change_block, "07 82 01 01  40 00", 2);
+    pair("2: 40 01", two, "07 82 01 02  40 01  44 01 00 00", 2);
+    pair("2: 44 00", request_block, "07 81 01 01  44 00", 2);
+    pair("2: 44 02", request_block, "07 81 01 01  44 02 00 00 00 00", 2);
+    pair("2: a block too few", two, "07 01 01 02  42 01 00 01", 2);
+    pair("2: a block too many", request_block, "07 01 01 01  42 01 00 01  42 01 00 01", 2);
+    pair("a fill byte between blocks", two, "07 01 01 02  41 01 05 00  42 01 00 01", 0);
+    pair("2: no fill byte between blocks", two, "07 01 01 02  41 01 05  42 01 00 01", 2);
+    pair("2: no fill byte", request_block, "07 01 01 01  41 01 05", 2);
+    pair("2: two fill bytes", request_block, "07 01 01 01  41 01 05 00 00", 2);
+    pair("2: a fill byte after two values", "07 01 01 01  10 02 03 C5 00 00", "07 01 01 01  41 02 03 29 00", 2);
+}
+
+/* A pair made to fail each check of the set and no other. A byte too many makes a block unreadable; the identifiers
+ * differ where a change is answered with a value. */
+static struct pair pair_failing(unsigned set)
+{
+    struct pair made = { hex(has(set, 6) ? change_block : request_block), has(set, 1), hex(response_block), has(set, 2),
+                         smallest(set) };
+
+    if (has(set, 3))
+        made.response.at[0] = 8;
+    if (has(set, 4))
+        made.response.at[2] = 2;
+    if (has(set, 5)) {
+        made.response.at[3] = 2;
+        add(&made.response, "42 01 00 01");
+    }
+    if (has(set, 7))
+        made.request.at[5] = 2; /* elements, of which one comes */
+    return made;
+}
+
+/* A pair that fails several checks is answered the first, for every set of them. */
+static void checked_order(void)
+{
+    for (unsigned set = 1 << 1; set < 1 << 8; set += 1 << 1)
+        check_pair(named("pair that fails%s", listed(set)), pair_failing(set));
+}
+
+/* Whether a byte is one of a hex text's. */
+static bool among(unsigned byte, const char *text)
+{
+    struct bytes bytes = hex(text);
+
+    return memchr(bytes.at, (int)byte, bytes.len) != NULL;
+}
+
+/* The number for two blocks that differ in their identifiers alone. */
+static uint8_t identifiers_number(unsigned of_request, unsigned of_response)
+{
+    if (!among(of_request, "01 02"))
+        return 1;
+    if (!among(of_response, "01 02 81 82"))
+        return 2;
+    return among(of_response, of_request == 0x01 ? "01 81" : "02 82") ? 0 : 6;
+}
+
+/* A request of this identifier beside responses of every one, each with what suits its own: a value, none, an error. */
+static void identifiers_beside(unsigned identifier)
+{
+    struct bytes request = hex(identifier == 0x02 ? change_block : request_block);
+
+    request.at[1] = (uint8_t)identifier;
+    for (unsigned other = 0; other < 256; other++) {
+        struct bytes response = hex(other == 0x01 ? response_block : other == 0x02 ? done_block : failed_block);
+
+        response.at[1] = (uint8_t)other;
+        check_number(named("identifiers %02X and %02X", identifier, other), "number of the check",
+                     llinkhiro_check(request.at, request.len, response.at, response.len),
+                     identifiers_number(identifier, other));
+    }
+}
+
+/* Check 6, and 1 and 2 by the identifier, for every two bytes. */
+static void identifiers(void)
+{
+    for (unsigned identifier = 0; identifier < 256; identifier++)
+        identifiers_beside(identifier);
+}
+
+/* A pair with these two bytes in one place of its headers. */
+static void header_bytes(const char *what, size_t at, unsigned of_request, unsigned of_response, uint8_t number)
+{
+    struct bytes request = hex(request_block), response = hex(response_block);
+
+    request.at[at] = (uint8_t)of_request;
+    response.at[at] = (uint8_t)of_response;
+    pair_of(named("%s %u and %u", what, of_request, of_response), request, response, number);
+}
+
+/* Checks 3 and 4, for every byte. No block has reference 0; an axis may be any byte. */
+static void references_and_axes(void)
+{
+    for (unsigned byte = 0; byte < 256; byte++) {
+        header_bytes("references", 0, byte, byte, byte == 0 ? 1 : 0);
+        header_bytes("references", 0, 7, byte, byte == 0 ? 2 : byte == 7 ? 0 : 3);
+        header_bytes("references", 0, byte, 255, byte == 0 ? 1 : byte == 255 ? 0 : 3);
+        header_bytes("axes", 2, byte, byte, 0);
+        header_bytes("axes", 2, 1, byte, byte == 1 ? 0 : 4);
+        header_bytes("axes", 2, byte, 0, byte == 0 ? 0 : 4);
+    }
+}
+
+/* A request of so many addresses, beside responses of up to 40 values. */
+static void parameters_beside(unsigned asked)
+{
+    struct bytes request = hex("07 01 01 00"), response = request;
+
+    request.at[3] = (uint8_t)asked;
+    add_times(&request, asked, "10 01 03 A2 00 00");
+    for (unsigned n = 0; n <= 40; n++) {
+        response.at[3] = (uint8_t)n;
+        pair_of(named("%u parameters asked, %u answered", asked, n), request, response,
+                asked < 1 || asked > 39 ? 1 : n < 1 || n > 39 ? 2 : n != asked ? 5 : 0);
+        add(&response, "42 01 00 01");
+    }
+}
+
+/* Check 5, and 1 and 2 by the number of parameters. */
+static void parameter_numbers(void)
+{
+    for (unsigned asked = 0; asked <= 40; asked++)
+        parameters_beside(asked);
+}
+
+/* So many values of `size` bytes for so many elements asked: 0 elements count as 1, and 0 values, or a response of more
+ * than 240 bytes, are not readable. */
+static void values_for(unsigned size, unsigned values, unsigned elements)
+{
+    struct bytes request = hex(request_block), response = hex("07 01 01 01");
+    unsigned format = size == 1 ? 0x41 : size == 2 ? 0x42 : 0x43;
+
+    request.at[5] = (uint8_t)elements;
+    response.at[response.len++] = (uint8_t)format;
+    response.at[response.len++] = (uint8_t)values;
+    add_times(&response, size * values + size * values % 2, "00");
+    bool readable = values > 0 && response.len <= LARGEST_BLOCK;
+    pair_of(named("format %02X, %u values for %u elements", format, values, elements), request, response,
+            !readable ? 2 : values != (elements == 0 ? 1 : elements) ? 7 : 0);
+}
+
+/* Every count that a response has room for, and what no longer fits. */
+static void counts_of(unsigned size)
+{
+    for (unsigned values = 0; size * values <= LARGEST_BLOCK - 4; values++) {
+        values_for(size, values, values);
+        values_for(size, values, values + 1);
+        values_for(size, values, values == 0 ? 0 : values - 1);
+        values_for(size, values, 0);
+        values_for(size, values, 1);
+        values_for(size, values, 255);
+    }
+}
+
+/* Check 7 of one block. */
+static void counts(void)
+{
+    counts_of(1);
+    counts_of(2);
+    counts_of(4);
+}
+
+/* 39 addresses of one element but one of two, in every place: one value there fails, two or an error pass. All blocks
+ * of the responses are of four bytes. */
+static void counts_in_place(void)
+{
+    struct bytes two = hex("41 02 00 01"), error = hex("44 01 00 03"), ones = hex("07 01 01 27"), request = ones;
+
+    add_times(&ones, 39, "42 01 00 01");
+    add_times(&request, 39, "10 01 75 31 00 00");
+    for (size_t k = 0; k < 39; k++) {
+        struct bytes asked = request, twos = ones, failure = ones;
+
+        asked.at[4 + 6 * k + 1] = 2;
+        pair_of(named("7: one value for address %zu", k), asked, ones, 7);
+        memcpy(twos.at + 4 + 4 * k, two.at, two.len);
+        pair_of(named("two values for address %zu", k), asked, twos, 0);
+        failure.at[1] = 0x81;
+        memcpy(failure.at + 4 + 4 * k, error.at, error.len);
+        pair_of(named("an error for address %zu", k), asked, failure, 0);
+    }
+}
+
+/* A block that begins so, and one value in this format. */
+static struct bytes with_value(const char *begun, unsigned format, const char *value)
+{
+    struct bytes block = hex(begun);
+
+    block.at[block.len++] = (uint8_t)format;
+    add(&block, "01");
+    add(&block, value);
+    return block;
+}
+
+/* A value of so many bytes in a change, in 01, and in 81 and 82: readable in the formats named, and in no other. */
+static void formats_of(const char *value, const char *of_change, const char *of_01, const char *of_failed)
+{
+    for (unsigned format = 0; format < 256; format++) {
+        pair_of(named("change, format %02X, value %s", format, value),
+                with_value("07 02 01 01  10 01 75 31 00 00", format, value), hex(done_block),
+                among(format, of_change) ? 0 : 1);
+        pair_of(named("01, format %02X, value %s", format, value), hex(request_block),
+                with_value("07 01 01 01", format, value), among(format, of_01) ? 0 : 2);
+        pair_of(named("81, format %02X, value %s", format, value), hex(request_block),
+                with_value("07 81 01 01", format, value), among(format, of_failed) ? 0 : 2);
+        pair_of(named("82, format %02X, value %s", format, value), hex(change_block),
+                with_value("07 82 01 01", format, value), among(format, of_failed) ? 0 : 2);
+    }
+}
+
+/* Checks 1 and 2 by the format. A byte value has its fill byte. */
+static void formats(void)
+{
+    formats_of("00 00", "41 42 02 03 05 06", "41 42", "44");
+    formats_of("00 00 00 00", "43 04 07", "43", "");
+}
+
+/* Checks 1 and 2 by the fill byte: any but 0 is not readable. */
+static void fill_bytes_checked(void)
+{
+    for (unsigned fill = 0; fill < 256; fill++) {
+        struct bytes change = hex("07 02 01 01  10 01 26 AC 00 00  05 01 05 00");
+        struct bytes response = hex("07 01 01 01  41 01 05 00");
+
+        change.at[change.len - 1] = response.at[response.len - 1] = (uint8_t)fill;
+        pair_of(named("fill byte %02X in a change", fill), change, hex(done_block), fill == 0 ? 0 : 1);
+        pair_of(named("fill byte %02X in a response", fill), hex(request_block), response, fill == 0 ? 0 : 2);
+    }
+}
+
+static void request_cut(struct bytes request, struct bytes response)
+{
+    while (request.len-- > 0)
+        pair_of(named("1: request cut to %zu bytes", request.len), request, response, 1);
+}
+
+static void response_cut(struct bytes request, struct bytes response)
+{
+    while (response.len-- > 0)
+        pair_of(named("2: response cut to %zu bytes", response.len), request, response, 2);
+}
+
+/* A pair that passes, with either block cut everywhere or followed by zeros: a length of more than 8 or 16 bits does
+ * not become a small one. */
+static void lengths_of(struct bytes request, struct bytes response)
+{
+    static const size_t zeros[] = { 1, 2, 4, 6, 256, 65536 };
+
+    pair_of(named("%zu bytes asked, %zu answered", request.len, response.len), request, response, 0);
+    request_cut(request, response);
+    response_cut(request, response);
+    for (size_t i = 0; i < sizeof zeros / sizeof zeros[0]; i++) {
+        check_pair(named("1: request and %zu zeros", zeros[i]), (struct pair){ request, zeros[i], response, 0, 1 });
+        check_pair(named("2: response and %zu zeros", zeros[i]), (struct pair){ request, 0, response, zeros[i], 2 });
+    }
+}
+
+/* A change by so many bytes; 228 of them make a block of 240. */
+static struct bytes change_by(uint8_t values)
+{
+    struct bytes change = hex("07 02 01 01  10 08 26 AD 00 00  41");
+
+    change.at[change.len++] = values;
+    add_times(&change, values, "AA");
+    add_times(&change, values % 2, "00");
+    return change;
+}
+
+/* Checks 1 and 2 by the length: blocks of 4 to 240 bytes, and longer ones that are laid out as a block is. */
+static void lengths(void)
+{
+    struct bytes many = hex("07 01 01 27"), longest = hex("07 01 01 01  41 EA"), too_long = hex("07 01 01 27  43 02");
+    struct bytes values = many;
+
+    lengths_of(hex(request_block), hex(response_block));
+    lengths_of(hex(change_block), hex(done_block));
+    lengths_of(change_by(228), hex(failed_block));
+    lengths_of(change_by(227), hex(done_block));
+    add_times(&longest, 234, "00");
+    lengths_of(hex("07 01 01 01  10 EA 03 C5 00 00"), longest);
+    add_times(&many, 39, "10 01 75 34 00 00");
+    add_times(&values, 39, "43 01 00 00 00 00");
+    lengths_of(many, values);
+    pair_of("1: a request of 242 bytes", change_by(230), hex(done_block), 1);
+    pair_of("1: a request of 268 bytes", change_by(255), hex(failed_block), 1);
+    many.at[5] = 2;
+    add_times(&too_long, 8, "00");
+    add_times(&too_long, 38, "43 01 00 00 00 00");
+    pair_of("2: a response of 242 bytes", many, too_long, 2);
+}
+
+struct span { /* a part of a memory */
+    size_t at, len;
+};
+
+static void in_one_memory(const char *name, const char *text, struct span request, struct span response, uint8_t number)
+{
+    struct bytes bytes = hex(text);
+    struct memory both = lend_bytes(&bytes, 0);
+    uint8_t *from = start(&both);
+
+    check_number(name, "number of the check",
+                 llinkhiro_check(from + request.at, request.len, from + response.at, response.len), number);
+    check_bytes(name, "memory unchanged", from, bytes.at, bytes.len);
+    check(name, "guards of the memory", guards_kept(&both));
+    give_back(&both);
+}
+
+/* Request and response in one memory. An address whose attribute is a format can be read as a block of values too. */
+static void one_memory(void)
+{
+    static const struct span none = { 0, 0 }, ten = { 0, 10 };
+
+    in_one_memory("1: nothing twice", "", none, none, 1);
+    in_one_memory("bytes twice", "07 01 01 01  41 03 AA BB CC 00", ten, ten, 0);
+    in_one_memory("words twice", "07 01 01 01  42 02 AA BB CC DD", ten, ten, 0);
+    in_one_memory("a double word twice", "07 01 01 01  43 01 AA BB CC DD", ten, ten, 0);
+    in_one_memory("2: an address twice", request_block, ten, ten, 2);
+    in_one_memory("2: a change twice", change_block, (struct span){ 0, 14 }, (struct span){ 0, 14 }, 2);
+    in_one_memory("1: a byte less", request_block, (struct span){ 0, 9 }, ten, 1);
+    in_one_memory("2: a byte less", "07 01 01 01  41 03 AA BB CC 00", ten, (struct span){ 0, 9 }, 2);
+    in_one_memory("request, response", "07 01 01 01  10 01 03 A2 00 00  07 01 01 01  42 01 00 01", ten,
+                  (struct span){ 10, 8 }, 0);
+    in_one_memory("7: response, request", "07 01 01 01  42 01 00 01  07 01 01 01  10 02 75 31 00 00",
+                  (struct span){ 8, 10 }, (struct span){ 0, 8 }, 7);
+    in_one_memory("response among the values of a change", "07 02 01 01  10 01 75 31 00 00  41 04 07 02 01 01",
+                  (struct span){ 0, 16 }, (struct span){ 12, 4 }, 0);
+    in_one_memory("request among the values of a response", "07 01 01 01  41 0A 07 01 01 01 10 0A 75 31 00 00",
+                  (struct span){ 6, 10 }, (struct span){ 0, 16 }, 0);
+    in_one_memory("response from the end of a change on",
+                  "07 02 01 01  10 01 75 31 00 00  41 02 07 82 01 01  44 01 00 02", (struct span){ 0, 14 },
+                  (struct span){ 12, 8 }, 0);
+    in_one_memory("change from the end of a response on",
+                  "02 02 02 02 02 02  10 01 75 31 00 00  10 01 75 31 00 01  42 01 03 E8  42 01 03 E8",
+                  (struct span){ 2, 24 }, (struct span){ 0, 4 }, 0);
+}
+
+/* Memory that starts at any address: each that is lent, at each offset from an aligned one. */
 static void offsets(void)
 {
     for (offset = 1; offset < 8; offset++) {
@@ -1329,6 +1815,7 @@ static void offsets(void)
         merged_waiting();
         faults();
         full_reply();
+        checked_by_hand();
     }
     offset = 0;
 }
@@ -1359,6 +1846,11 @@ static void placed(enum placing here)
     addresses();
     cycles();
     faults();
+    checked_by_hand();
+    checked_headers();
+    unreadable_responses();
+    lengths();
+    one_memory();
     placing = GUARDED;
 }
 
@@ -1377,7 +1869,8 @@ static void fenced_below(void)
     placed(FENCED_BELOW);
 }
 
-/* Memory that nobody wrote to: fresh reads none of the station's, a frame and a merged call none of the reply's. */
+/* Memory that nobody wrote to: fresh reads none of the station's, a frame and a merged call none of the reply's, and a
+ * check none past the response. */
 static void unwritten(void)
 {
     size_t size = llinkhiro_size();
@@ -1399,6 +1892,7 @@ static void unwritten(void)
     check_number("unwritten", "exchanged", exchanged.number, 0);
     check_number("unwritten", "length exchanged", exchanged.length, 12);
     check_bytes("unwritten", "response exchanged", merged, response.at, response.len);
+    check_number("unwritten", "response checked", llinkhiro_check(request.at + 4, request.len - 4, merged + 4, 8), 0);
     check_bytes("unwritten", "station idle", lent, start(&station), size);
     free(lent);
     free(reply);
@@ -1444,6 +1938,20 @@ static const struct group {
     { "address rules", addresses },
     { "cycles", cycles },
     { "faults", faults },
+    { "check, yes and numbers 1, 2 and 7", checked_by_hand },
+    { "check, numbers 3 to 6", checked_headers },
+    { "check, what it does not look at", not_checked },
+    { "check, unreadable responses", unreadable_responses },
+    { "check, order of its numbers", checked_order },
+    { "check, references and axes", references_and_axes },
+    { "check, numbers of parameters", parameter_numbers },
+    { "check, identifiers", identifiers },
+    { "check, counts", counts },
+    { "check, 39 counts", counts_in_place },
+    { "check, formats", formats },
+    { "check, fill bytes", fill_bytes_checked },
+    { "check, lengths", lengths },
+    { "check, one memory for both", one_memory },
     { "unaligned memory", offsets },
     { "bare memory", bare },
     { "memory below a fence", fenced_above },
