@@ -10,6 +10,7 @@ use twin::{Cycled, Framed, REPLY_MIN};
 pub enum Answer {
     Cycle(Cycled),
     Frame(Framed, Vec<u8>),
+    Check(u8),
 }
 
 impl Answer {
@@ -17,6 +18,7 @@ impl Answer {
         match self {
             Answer::Cycle(cycled) => cycled.number,
             Answer::Frame(framed, _) => framed.number,
+            Answer::Check(number) => *number,
         }
     }
 }
@@ -33,6 +35,7 @@ fn answer<S: Side>(side: &mut S, call: &Call) -> Answer {
         Call::Cycle(cycle) => Answer::Cycle(side.cycle(cycle).into()),
         Call::Frame { farm, frame } => framed(|reply| side.frame(*farm, frame, reply)),
         Call::Exchange { farm, frame } => framed(|reply| side.exchange(*farm, frame, reply)),
+        Call::Check { request, response } => Answer::Check(S::check(request, response)),
     }
 }
 
@@ -66,6 +69,9 @@ pub fn run<S: Side>(side: &mut S, row: &Row, passes: usize) {
                 }
                 Call::Exchange { farm, frame } => {
                     black_box(side.exchange(*farm, frame, black_box(&mut reply)));
+                }
+                Call::Check { request, response } => {
+                    black_box(S::check(request, response));
                 }
             }
         }

@@ -11,11 +11,12 @@ pub struct Cycle {
     pub fault: u16,
 }
 
-/// An exchange is the merged call.
+/// An exchange is the merged call; a check is of blocks, not of frames.
 pub enum Call {
     Cycle(Cycle),
     Frame { farm: u32, frame: Vec<u8> },
     Exchange { farm: u32, frame: Vec<u8> },
+    Check { request: Vec<u8>, response: Vec<u8> },
 }
 
 /// One row. `calls` end where they began, so that they can be made again and again.
@@ -32,7 +33,7 @@ pub struct Row {
     pub number: u8,
 }
 
-/// Requests of farm 1, each a block. Written and fetched they are one row, by the merged call another.
+/// Requests of farm 1, each a block. Written and fetched they are one row, by the merged call another, checked a third.
 struct Requests {
     what: String,
     blocks: Vec<Vec<u8>>,
@@ -41,6 +42,8 @@ struct Requests {
 
 /// Which requests are sent by the merged call too, which may cost no more than the write and the fetch.
 pub const MERGED: [&str; 4] = ["1 read", "39 read", "1 element changed", "18 elements changed"];
+/// Which requests are checked with a response.
+const CHECKED: [&str; 3] = ["1 read", "39 read", "18 elements changed"];
 
 const STANDSTILL: u32 = 1;
 /// The most parameters of a request: 4 + 39 * 6 = 238 bytes, and document 01 allows no more.
@@ -53,6 +56,8 @@ pub fn rows() -> Vec<Row> {
     rows.extend(requests.iter().map(Requests::written_and_fetched));
     rows.extend(requests.iter().filter(|of| MERGED.contains(&of.what.as_str())).map(Requests::merged));
     rows.push(denied());
+    rows.extend(requests.iter().filter(|of| CHECKED.contains(&of.what.as_str())).map(Requests::checked));
+    rows.push(mistaken());
     rows
 }
 
@@ -120,20 +125,34 @@ fn fetch() -> Vec<u8> {
 }
 
 impl Requests {
-    /// The row of this name, where these calls send a write.
-    fn row(&self, name: String, calls: fn(Vec<u8>) -> Vec<Call>) -> Row {
-        let calls = self.blocks.iter().flat_map(|block| calls(write(block))).collect();
+    /// The row of this name, where these calls are made of a block.
+    fn row(&self, name: String, calls: fn(&[u8]) -> Vec<Call>) -> Row {
+        let calls = self.blocks.iter().flat_map(|block| calls(block)).collect();
         Row { name, start: vec![], calls, units: self.blocks.len(), addresses: None, number: 0 }
     }
 
     fn written_and_fetched(&self) -> Row {
-        let calls = |write| [write, fetch()].map(|frame| Call::Frame { farm: 1, frame }).into();
+        let calls = |block: &[u8]| [write(block), fetch()].map(|frame| Call::Frame { farm: 1, frame }).into();
         Row { addresses: self.addresses, ..self.row(in_two_calls(&self.what), calls) }
     }
 
     fn merged(&self) -> Row {
-        self.row(in_one_call(&self.what), |frame| vec![Call::Exchange { farm: 1, frame }])
+        self.row(in_one_call(&self.what), |block| vec![Call::Exchange { farm: 1, frame: write(block) }])
     }
+
+    fn checked(&self) -> Row {
+        let calls = |block: &[u8]| vec![Call::Check { request: block.into(), response: done(block) }];
+        self.row(format!("check, {}", self.what), calls)
+    }
+}
+
+/// The response to a block of which all was done: a word for each address read, and nothing for a change.
+fn done(block: &[u8]) -> Vec<u8> {
+    let mut response = block[..4].to_vec();
+    if block[1] == 0x01 {
+        response.extend([0x42, 1, 0x03, 0xE8].repeat(block[3].into()));
+    }
+    response
 }
 
 fn address(pnu: u16, first: u16, elements: u8) -> Vec<u8> {
@@ -207,4 +226,14 @@ fn denied() -> Row {
     let name = "frame denied (another farm's axis)".into();
     let calls = vec![Call::Frame { farm: 2, frame: write(&block) }];
     Row { name, start: vec![], calls, units: 1, addresses: None, number: 11 }
+}
+
+/// A response that is right in all but its reference, number 3: both blocks are read to their end, and no count is compared.
+fn mistaken() -> Row {
+    let calls = |block: &[u8]| {
+        let mut response = done(block);
+        response[0] += 1;
+        vec![Call::Check { request: block.into(), response }]
+    };
+    Row { number: 3, ..read(MOST_ADDRESSES).row("check, 39 read, another reference".into(), calls) }
 }

@@ -14,6 +14,8 @@ pub trait Side {
     fn cycle(&mut self, cycle: &Cycle) -> Self::Cycled;
     fn frame(&mut self, farm: u32, frame: &[u8], reply: &mut [u8]) -> Self::Framed;
     fn exchange(&mut self, farm: u32, frame: &[u8], reply: &mut [u8]) -> Self::Framed;
+    /// It takes no station.
+    fn check(request: &[u8], response: &[u8]) -> u8;
 }
 
 pub struct Twin(Station);
@@ -36,6 +38,10 @@ impl Side for Twin {
 
     fn exchange(&mut self, farm: u32, frame: &[u8], reply: &mut [u8]) -> Framed {
         self.0.exchange(farm, frame, reply)
+    }
+
+    fn check(request: &[u8], response: &[u8]) -> u8 {
+        twin::check(request, response)
     }
 }
 
@@ -70,7 +76,7 @@ impl From<CFramed> for Framed {
 
 /// A side with the face of `include/llinkhiro.h`, whose functions have these names. Those that take a frame have one face.
 macro_rules! c_side {
-    ($side:ident, $size:ident, $fresh:ident, $cycle:ident, $($framed:ident: $name:ident),*) => {
+    ($side:ident, $size:ident, $fresh:ident, $cycle:ident, $check:ident, $($framed:ident: $name:ident),*) => {
         extern "C" {
             fn $size() -> usize;
             fn $fresh(station: *mut u8, len: usize) -> u8;
@@ -84,6 +90,7 @@ macro_rules! c_side {
                 nist: i16,
                 fault: u16,
             ) -> CCycled;
+            fn $check(request: *const u8, request_len: usize, response: *const u8, response_len: usize) -> u8;
             $(fn $name(
                 station: *mut u8,
                 len: usize,
@@ -113,6 +120,10 @@ macro_rules! c_side {
                 unsafe { $cycle(at, len, c.axis, c.flags, c.stw1, c.nsoll, c.nist, c.fault) }
             }
 
+            fn check(request: &[u8], response: &[u8]) -> u8 {
+                unsafe { $check(request.as_ptr(), request.len(), response.as_ptr(), response.len()) }
+            }
+
             $(fn $framed(&mut self, farm: u32, frame: &[u8], reply: &mut [u8]) -> CFramed {
                 let (at, len) = (self.0.as_mut_ptr(), self.0.len());
                 unsafe { $name(at, len, farm, frame.as_ptr(), frame.len(), reply.as_mut_ptr(), reply.len()) }
@@ -122,6 +133,7 @@ macro_rules! c_side {
 }
 
 c_side!(
-    Ours, llinkhiro_size, llinkhiro_fresh, llinkhiro_cycle, frame: llinkhiro_frame, exchange: llinkhiro_exchange
+    Ours, llinkhiro_size, llinkhiro_fresh, llinkhiro_cycle, llinkhiro_check, frame: llinkhiro_frame,
+    exchange: llinkhiro_exchange
 );
-c_side!(Plain, plain_size, plain_fresh, plain_cycle, frame: plain_frame, exchange: plain_exchange);
+c_side!(Plain, plain_size, plain_fresh, plain_cycle, plain_check, frame: plain_frame, exchange: plain_exchange);
