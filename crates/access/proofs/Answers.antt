@@ -235,12 +235,12 @@ no-error (b ∷ bs) f e =
     (value-block b (f .0) (none .0), no-error bs (f .1) (none .1))
 
 -- The answer: its values and its bytes.
-record Answers (a : Response) : Type 0 where
+record Fitted (a : Response) : Type 0 where
   fits : ResponseFits a
   short : length (responseBytes a) ≤ blockLimit
 
 module _ (r : Request) (f : RequestFits r) where
-  answers : (id : ℕ) (bs : List Block) → isAnswer id ≡ true → errorsFit id bs ≡ true → Run id 4 (responseBlocks id (length (r .addresses))) bs → Answers (answerOf r id bs)
+  answers : (id : ℕ) (bs : List Block) → isAnswer id ≡ true → errorsFit id bs ≡ true → Run id 4 (responseBlocks id (length (r .addresses))) bs → Fitted (answerOf r id bs)
   answers id bs known errors run =
       record {
         fits =
@@ -256,17 +256,17 @@ module _ (r : Request) (f : RequestFits r) where
         short = omega (arith, run .short);
       }
 
-  read-answers : (bs : List Block) → Run 0x81 4 (length (r .addresses)) bs → Answers (answerOf r (cond (hasError bs) 0x81 0x01) bs)
+  read-answers : (bs : List Block) → Run 0x81 4 (length (r .addresses)) bs → Fitted (answerOf r (cond (hasError bs) 0x81 0x01) bs)
   unfolding errorsFit responseBlocks
   read-answers bs run =
-      pick (λ id. Answers (answerOf r id bs)) (hasError bs)
+      pick (λ id. Fitted (answerOf r id bs)) (hasError bs)
       (λ e. answers 0x81 bs refl e run)
       (λ e. answers 0x01 bs refl refl (record { fits = no-error bs (run .fits) e; count = run .count; short = run .short }))
 
-  change-answers : (bs : List Block) → Run 0x82 4 (length (r .addresses)) bs → Answers (cond (hasError bs) (answerOf r 0x82 bs) (answerOf r 0x02 []))
+  change-answers : (bs : List Block) → Run 0x82 4 (length (r .addresses)) bs → Fitted (cond (hasError bs) (answerOf r 0x82 bs) (answerOf r 0x02 []))
   unfolding errorsFit responseBlocks
   change-answers bs run =
-      pick Answers (hasError bs)
+      pick Fitted (hasError bs)
       (λ e. answers 0x82 bs refl e run)
       (λ e. answers 0x02 [] refl refl (record { fits = tt; count = refl; short = lit≤ tt }))
 
@@ -288,10 +288,10 @@ module _ (r : Request) (f : RequestFits r) where
   changes : (p : List ℕ) → eqb (r .identifier) 1 ≡ false → Run 0x82 4 (length (r .addresses)) (changeAll (r .addresses) (r .blocks) p .blocks)
   changes p e = change-all (r .addresses) (r .blocks) p 4 (block-each e) room
 
-  all-answers : (p : List ℕ) → Answers (worked r p .response)
+  all-answers : (p : List ℕ) → Fitted (worked r p .response)
   unfolding worked
   all-answers p =
-      pick (λ (w : Worked). Answers (w .response)) (eqb (r .identifier) 1)
+      pick (λ (w : Worked). Fitted (w .response)) (eqb (r .identifier) 1)
       (λ e. read-answers (readBlocks p 4 (r .addresses)) (reads p))
       (λ e. change-answers (changeAll (r .addresses) (r .blocks) p .blocks) (changes p e))
 

@@ -1,16 +1,15 @@
 -- Demand 3, for requests and for responses: one statement each, over the plain page.
-use mathlib.Core.Path.{_≡_, sym, _∙_, ap}
+use mathlib.Core.Path.{_≡_}
 use mathlib.Core.Bool.{true}
 use mathlib.Core.List.{List, [], _++_}
 use Prim.Native.Nat.{ℕ}
 use Rattle.codes.specs.Code.{got, readable}
 use Rattle.codes.specs.Demand.{Demand3}
-use Rattle.codes.proofs.Sound.{read-back}
-use Rattle.codes.proofs.Demand.{demand, on-page}
+use Rattle.codes.proofs.Demand.{demand, on-page, page-read}
 use Rattle.blocks.specs.Block.{blockLimit}
 use Rattle.blocks.specs.Request.{Request, request}
 use Rattle.blocks.specs.Response.{Response, response}
-use Rattle.blocks.specs.Page.{RequestFits, requestBytes, ResponseFits, responseBytes}
+use Rattle.blocks.specs.Page.{RequestFits, requestBytes, ResponseFits, responseBytes, IsRequest, IsResponse}
 use Rattle.blocks.proofs.Sound.{request-sound, response-sound}
 use Rattle.blocks.proofs.Page.{request-valid, request-bytes, response-valid, response-bytes}
 
@@ -21,11 +20,11 @@ pub responses : Demand3 blockLimit ResponseFits responseBytes (readable blockLim
 responses = on-page response-valid response-bytes (demand blockLimit response response-sound)
 
 -- What the page writes is read back as it was.
-pub request-back : (r : Request) → RequestFits r → request .read (requestBytes r) ≡ got r []
-request-back r fits = ap (request .read) (sym (request-bytes r)) ∙ read-back request request-sound r (request-valid r .1 fits)
+pub request-read : (s : List ℕ) (r : Request) → IsRequest s r → request .read s ≡ got r []
+request-read = page-read request request-sound request-valid request-bytes blockLimit
 
-pub response-back : (r : Response) → ResponseFits r → response .read (responseBytes r) ≡ got r []
-response-back r fits = ap (response .read) (sym (response-bytes r)) ∙ read-back response response-sound r (response-valid r .1 fits)
+pub response-read : (s : List ℕ) (r : Response) → IsResponse s r → response .read s ≡ got r []
+response-read = page-read response response-sound response-valid response-bytes blockLimit
 
 -- The second and the third sentence, written out: a `Demand3` that is made weaker fails here.
 one-request : (a b : Request) → RequestFits a → RequestFits b → requestBytes a ≡ requestBytes b → a ≡ b

@@ -6,8 +6,9 @@ use mathlib.Core.Bool.{Bool, true}
 use Prim.Native.Nat.{ℕ, zero, suc, _≤_, _<_, _/_, _%_, _^_}
 use lib.ListN.{length, replicate}
 use Rattle.codes.specs.Code.{AllOf, writeAll}
+use Rattle.codes.specs.Demand.{WrittenAs}
 use Rattle.blocks.specs.declared.reader.Address.{Address}
-use Rattle.blocks.specs.Block.{Block, valueSize, fillSize, changeBlockFits, responseBlockFits}
+use Rattle.blocks.specs.Block.{Block, blockLimit, valueSize, fillSize, changeBlockFits, responseBlockFits}
 use Rattle.blocks.specs.Request.{Request, requestBlocks}
 use Rattle.blocks.specs.Response.{Response, isAnswer, responseBlocks, errorsFit}
 
@@ -67,3 +68,10 @@ requestBytes r =
 
 abbrev pub responseBytes : Response → List ℕ
 responseBytes r = r .reference ∷ r .identifier ∷ r .axis ∷ r .count ∷ writeAll blockBytes (r .blocks)
+
+-- "4 to 240 bytes": the block s is this request, or this response
+abbrev pub IsRequest : List ℕ → Request → Type 0
+IsRequest = WrittenAs blockLimit RequestFits requestBytes
+
+abbrev pub IsResponse : List ℕ → Response → Type 0
+IsResponse = WrittenAs blockLimit ResponseFits responseBytes

@@ -10,7 +10,7 @@ use Rattle.blocks.specs.Request.{Request, request}
 use Rattle.blocks.specs.Response.{Response, response}
 use Rattle.blocks.proofs.Sound.{request-sound, response-sound}
 use Rattle.checker.specs.Check.{compared, checkOf}
-use Rattle.checker.specs.Walk.{AsRead}
+use Rattle.checker.specs.Inner.{AsRead}
 
 module _ (s t : List ℕ) where
   pub no-request : readable blockLimit request s ≡ false → 1 ≡ checkOf s t

@@ -1,23 +1,24 @@
 -- The laws of specs/Laws.antt: what is tested of the two blocks is what the plain page says of the request and the response that they are.
-use mathlib.Core.Path.{_≡_, refl, sym, _∙_, ap}
-use mathlib.Core.Bool.{Bool, true, false, cond, not, _&&_, _||_}
+use mathlib.Core.Path.{_≡_, refl, sym, _∙_}
+use mathlib.Core.Bool.{Bool, true, false, true≢false, cond, not, _||_}
 use mathlib.Core.List.{List, [], _∷_}
 use mathlib.Core.Logic.{_⊎_, inl, inr}
 use Prim.Native.Nat.{ℕ, zero, suc, _≤_, _<_}
 use native.Mathlib.Omega.{arith}
-use lib.Dec.{eqb, leb, lit<, lit≤}
-use lib.ListN.{length, getD}
+use lib.Dec.{eqb, leb, lit<}
+use lib.ListN.{length}
 use borrow.Author.Tests.{leb-true, le-leb, eqb-true, eqb-false, eq-eqb, ne-eqb}
-use Rattle.codes.specs.Code.{got, readable}
-use Rattle.codes.proofs.Demand.{both}
+use Rattle.codes.specs.Code.{readable}
+use Rattle.codes.proofs.Demand.{both, written-as, is-readable}
 use Rattle.blocks.specs.Block.{Block, blockLimit}
 use Rattle.blocks.specs.Request.{Request, request}
 use Rattle.blocks.specs.Response.{Response, response}
-use Rattle.blocks.specs.Page.{From, RequestFits}
+use Rattle.blocks.specs.Page.{From, IsRequest, IsResponse}
 use Rattle.blocks.specs.declared.reader.Address.{Address}
-use Rattle.blocks.proofs.Demand.{requests, responses, request-back, response-back}
-use Rattle.checker.specs.Check.{matching, isValues, elementsAsked, countFits, countsFit, compared, checkOf}
-use Rattle.checker.specs.Laws.{IsRequest, IsResponse, Matches, Counted, EachCounted, Tested, Compared, Checked, FirstFailed, Answers, Passes, YesExactly, ComparesWritten}
+use Rattle.blocks.proofs.Demand.{requests, responses, request-read, response-read}
+use Rattle.checker.specs.Check.{matching, isValues, elementsAsked, countFits, countsFit, checkOf}
+use Rattle.checker.specs.Laws.{Matches, Counted, EachCounted, Tested, Checks, Verdict, FirstFailed, Passes, YesExactly, ComparesWritten}
+use Rattle.checker.proofs.Comparing.{rowOf, in-row}
 use Rattle.checker.proofs.Judging.{no-request, no-response, both-read}
 use Rattle.checker.proofs.Tested.{untested, fails, holds, so, firstOf, numbered, tested}
 
@@ -55,9 +56,12 @@ is-values f h = rw (le-leb 0x41 f (h .0), le-leb f 0x43 (h .1))
 counted : (a : Address) (b : Block) → countFits (a .elements) (b .format) (length (b .values)) ≡ true → Counted a b
 counted a b e =
     record {
-      asked = λ v some. let k : eqb (length (b .values)) (elementsAsked (a .elements)) ≡ true = rw (is-values (b .format) v) at e in eqb-true _ _ (rw (ne-eqb (a .elements) 0 some) at k);
-      one = λ v none. let k : eqb (length (b .values)) (elementsAsked (a .elements)) ≡ true = rw (is-values (b .format) v) at e in eqb-true _ _ (rw none at k);
+      asked = λ v some. eqb-true _ _ (rw (ne-eqb (a .elements) 0 some) at (as-asked v));
+      one = λ v none. eqb-true _ _ (rw none at (as-asked v));
     }
+  where
+    as-asked : From 0x41 0x43 (b .format) → eqb (length (b .values)) (elementsAsked (a .elements)) ≡ true
+    as-asked v = rw (is-values (b .format) v) at e
 
 counted-back : (a : Address) (b : Block) → Counted a b → countFits (a .elements) (b .format) (length (b .values)) ≡ true
 counted-back a b c = go (isValues (b .format)) refl
@@ -83,71 +87,32 @@ each-back [] bs c = refl
 each-back (a ∷ more) [] c = refl
 each-back (a ∷ more) (b ∷ bs) c = rw (counted-back a b (c a b 0 (omega arith) (omega arith))) (each-back more bs (λ x y k h l. c x y (suc k) (omega arith) (omega arith)))
 
--- checks 3 to 7, in a row
-module _ (q : Request) (r : Response) where
-  abbrev row : List Bool
-  row =
-      eqb (r .reference) (q .reference)
-      ∷ eqb (r .axis) (q .axis)
-      ∷ eqb (r .count) (length (q .addresses))
-      ∷ matching (q .identifier) (r .identifier)
-      ∷ countsFit (q .addresses) (r .blocks)
-      ∷ []
-
-  in-row : compared q r ≡ firstOf 3 row
-  unfolding compared
-  in-row = refl
-
-  tests : From 1 2 (q .identifier) → Compared q r (firstOf 3 row)
-  tests range =
-      record {
-        reference = so 3 _ _ _ (eqb-true _ _) (eq-eqb _ _) (tested 3 (lit< tt) row 0 (lit< tt));
-        axis = so 4 _ _ _ (eqb-true _ _) (eq-eqb _ _) (tested 3 (lit< tt) row 1 (lit< tt));
-        number = so 5 _ _ _ (eqb-true _ _) (eq-eqb _ _) (tested 3 (lit< tt) row 2 (lit< tt));
-        identifier = so 6 _ _ _ (matches _ _ range) (matches-back _ _) (tested 3 (lit< tt) row 3 (lit< tt));
-        counts = so 7 _ _ _ (each-counted _ _) (each-back _ _) (tested 3 (lit< tt) row 4 (lit< tt));
-      }
-
--- a block is readable where the page writes it, and is then read as that request, or that response
-module _ (s : List ℕ) where
-  pub request-of : readable blockLimit request s ≡ true → (q : Request) × IsRequest s q
-  request-of e = let w = requests .exact s .0 e in (w .1 .0, record { fits = w .1 .1; bytes = w .1 .2; short = w .0 })
-
-  response-of : readable blockLimit response s ≡ true → (r : Response) × IsResponse s r
-  response-of e = let w = responses .exact s .0 e in (w .1 .0, record { fits = w .1 .1; bytes = w .1 .2; short = w .0 })
-
-  module _ (q : Request) (i : IsRequest s q) where
-    request-is : readable blockLimit request s ≡ true
-    request-is = requests .exact s .1 (i .short, (q, i .fits, i .bytes))
-
-    pub request-read : request .read s ≡ got q []
-    request-read = ap (request .read) (sym (i .bytes)) ∙ request-back q (i .fits)
-
-  module _ (r : Response) (i : IsResponse s r) where
-    response-is : readable blockLimit response s ≡ true
-    response-is = responses .exact s .1 (i .short, (r, i .fits, i .bytes))
-
-    response-read : response .read s ≡ got r []
-    response-read = ap (response .read) (sym (i .bytes)) ∙ response-back r (i .fits)
+-- checks 3 to 7
+tests : (q : Request) (r : Response) → From 1 2 (q .identifier) → Checks (Tested (firstOf 3 (rowOf q r))) q r
+tests q r range =
+    record {
+      reference = so 3 _ _ _ (eqb-true _ _) (eq-eqb _ _) (tested 3 (lit< tt) (rowOf q r) 0 (lit< tt));
+      axis = so 4 _ _ _ (eqb-true _ _) (eq-eqb _ _) (tested 3 (lit< tt) (rowOf q r) 1 (lit< tt));
+      number = so 5 _ _ _ (eqb-true _ _) (eq-eqb _ _) (tested 3 (lit< tt) (rowOf q r) 2 (lit< tt));
+      identifier = so 6 _ _ _ (matches _ _ range) (matches-back _ _) (tested 3 (lit< tt) (rowOf q r) 3 (lit< tt));
+      counts = so 7 _ _ _ (each-counted _ _) (each-back _ _) (tested 3 (lit< tt) (rowOf q r) 4 (lit< tt));
+    }
 
 pub compares-written : ComparesWritten
-compares-written s t q r i j = sym (both-read s t (request-is s q i) (response-is t r j) q r (request-read s q i) (response-read t r j))
+compares-written s t q r i j = sym (both-read s t (is-readable requests s q i) (is-readable responses t r j) q r (request-read s q i) (response-read t r j))
 
 -- where both are read the number is neither 1 nor 2
 compared-range : (n : ℕ) → (n ≡ 0) ⊎ ((3 ≤ n) × (n < 8)) → (n ≤ 7) × (n ≡ 1 → ⊥) × (n ≡ 2 → ⊥)
 compared-range n (inl e) = (omega arith, λ z. omega arith, λ z. omega arith)
 compared-range n (inr h) = (omega (arith, h .1), λ z. omega (arith, h .0), λ z. omega (arith, h .0))
 
-unlike : (b : Bool) → b ≡ false → b ≡ true → ⊥
-unlike b e f = let z : _≡_ {A = ℕ} 0 1 = cc in omega arith
-
 pub first-failed : FirstFailed
 first-failed s t = go (readable blockLimit request s) refl (readable blockLimit response t) refl
   where
-    go : (x : Bool) → readable blockLimit request s ≡ x → (y : Bool) → readable blockLimit response t ≡ y → Checked s t (checkOf s t)
+    go : (x : Bool) → readable blockLimit request s ≡ x → (y : Bool) → readable blockLimit response t ≡ y → Verdict s t (checkOf s t)
     go false e y f =
         let one = no-request s t e in
-        let none : (q : Request) → IsRequest s q → ⊥ = λ q i. unlike _ e (request-is s q i) in
+        let none : (q : Request) → IsRequest s q → ⊥ = λ q i. true≢false (sym (is-readable requests s q i) ∙ e) in
         record {
           most = omega arith;
           request = fails 1 _ _ (sym one) (lit< tt) (λ p. none (p .0) (p .1));
@@ -156,18 +121,18 @@ first-failed s t = go (readable blockLimit request s) refl (readable blockLimit 
         }
     go true e false f =
         let two = no-response s t e f in
-        let none : (r : Response) → IsResponse t r → ⊥ = λ r j. unlike _ f (response-is t r j) in
+        let none : (r : Response) → IsResponse t r → ⊥ = λ r j. true≢false (sym (is-readable responses t r j) ∙ f) in
         record {
           most = omega arith;
-          request = holds 1 _ _ (λ z. omega arith) (request-of s e);
+          request = holds 1 _ _ (λ z. omega arith) (written-as requests s e);
           response = fails 2 _ _ (sym two) (lit< tt) (λ p. none (p .0) (p .1));
           rest = λ q r i j. absurd (none r j);
         }
     go true e true f =
-        let q = request-of s e in
-        let r = response-of t f in
+        let q = written-as requests s e in
+        let r = written-as responses t f in
         let same = compares-written s t (q .0) (r .0) (q .1) (r .1) ∙ in-row (q .0) (r .0) in
-        let range = compared-range (checkOf s t) (rw same (numbered 3 (row (q .0) (r .0)))) in
+        let range = compared-range (checkOf s t) (rw same (numbered 3 (rowOf (q .0) (r .0)))) in
         record {
           most = range .0;
           request = holds 1 _ _ (range .1) q;
@@ -185,7 +150,7 @@ below n most n4 n3 n2 n1 = omega arith
 pub yes-exactly : YesExactly
 yes-exactly s t = (says, λ p. none (checkOf s t) (c .most) (c .request) (c .response) p (c .rest _ _ (p .isRequest) (p .isResponse)))
   where
-    c : Checked s t (checkOf s t)
+    c : Verdict s t (checkOf s t)
     c = first-failed s t
 
     says : checkOf s t ≡ 0 → Passes s t
@@ -209,7 +174,7 @@ yes-exactly s t = (says, λ p. none (checkOf s t) (c .most) (c .request) (c .res
         }
 
     -- none of the seven failed
-    none : (n : ℕ) → n ≤ 7 → Tested 1 n ((q : Request) × IsRequest s q) → Tested 2 n ((r : Response) × IsResponse t r) → (p : Passes s t) → Compared (p .request) (p .response) n → n ≡ 0
+    none : (n : ℕ) → n ≤ 7 → Tested n 1 ((q : Request) × IsRequest s q) → Tested n 2 ((r : Response) × IsResponse t r) → (p : Passes s t) → Checks (Tested n) (p .request) (p .response) → n ≡ 0
     none n most q r p d =
         below n (above n most (λ e. d .counts .failed e (p .answers .counts)) (λ e. d .identifier .failed e (p .answers .identifier)) (λ e. d .number .failed e (p .answers .number)))
         (λ e. d .axis .failed e (p .answers .axis)) (λ e. d .reference .failed e (p .answers .reference)) (λ e. r .failed e (p .response, p .isResponse)) (λ e. q .failed e (p .request, p .isRequest))

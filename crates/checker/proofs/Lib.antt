@@ -1,6 +1,6 @@
 pub mod Counting
+pub mod Tested
 pub mod Comparing
 pub mod Judging
-pub mod Tested
 pub mod Laws
 pub mod Instances

@@ -13,17 +13,17 @@ module _ (i n : ℕ) (Holds : Type 0) where
   unsaid some few (inl e) = absurd (omega arith)
   unsaid some few (inr h) = absurd (omega arith)
 
-  pub untested : 0 < n → n < i → Tested i n Holds
+  pub untested : 0 < n → n < i → Tested n i Holds
   untested some early = record { failed = λ e. absurd (omega arith); held = unsaid some (omega arith) }
 
-  pub fails : n ≡ i → 0 < i → (Holds → ⊥) → Tested i n Holds
+  pub fails : n ≡ i → 0 < i → (Holds → ⊥) → Tested n i Holds
   fails e some wrong = record { failed = λ k. wrong; held = unsaid (omega arith) (omega arith) }
 
-  pub holds : (n ≡ i → ⊥) → Holds → Tested i n Holds
+  pub holds : (n ≡ i → ⊥) → Holds → Tested n i Holds
   holds other h = record { failed = λ e k. other e; held = λ z. h }
 
   -- what is tested may be said in other words
-  pub so : (Means : Type 0) → (Holds → Means) → (Means → Holds) → Tested i n Holds → Tested i n Means
+  pub so : (Means : Type 0) → (Holds → Means) → (Means → Holds) → Tested n i Holds → Tested n i Means
   so Means there back t = record { failed = λ e m. t .failed e (back m); held = λ z. there (t .held z) }
 
 -- the number of the first test that fails, numbered from i on; 0 where none does
@@ -42,7 +42,7 @@ numbered i (true ∷ bs) = go (numbered (suc i) bs)
 numbered i (false ∷ bs) = inr (omega arith, omega arith)
 
 -- test k is that of check i + k
-pub tested : (i : ℕ) → 0 < i → (bs : List Bool) (k : ℕ) → k < length bs → Tested (i + k) (firstOf i bs) (getD bs k true ≡ true)
+pub tested : (i : ℕ) → 0 < i → (bs : List Bool) (k : ℕ) → k < length bs → Tested (firstOf i bs) (i + k) (getD bs k true ≡ true)
 tested i some [] k h = absurd (omega arith)
 tested i some (true ∷ bs) zero h = holds (i + 0) (firstOf (suc i) bs) _ (other (numbered (suc i) bs)) refl
   where
@@ -52,5 +52,5 @@ tested i some (true ∷ bs) zero h = holds (i + 0) (firstOf (suc i) bs) _ (other
 tested i some (false ∷ bs) zero h = fails (i + 0) i _ (omega arith) (omega arith) (λ e. let z : _≡_ {A = ℕ} 0 1 = cc in omega arith)
 tested i some (true ∷ bs) (suc k) h =
     let place : suc i + k ≡ i + suc k = omega arith in
-    subst (λ (j : ℕ). Tested j (firstOf (suc i) bs) (getD bs k true ≡ true)) place (tested (suc i) (omega arith) bs k (omega arith))
+    subst (λ (j : ℕ). Tested (firstOf (suc i) bs) j (getD bs k true ≡ true)) place (tested (suc i) (omega arith) bs k (omega arith))
 tested i some (false ∷ bs) (suc k) h = untested (i + suc k) i _ some (omega arith)

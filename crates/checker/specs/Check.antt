@@ -17,7 +17,7 @@ use Rattle.blocks.specs.declared.reader.Address.{Address}
 abbrev pub matching : ℕ → ℕ → Bool
 matching asked id = cond (eqb asked 1) (eqb id 1 || eqb id 0x81) (eqb id 2 || eqb id 0x82)
 
--- a value block: "0x41, 0x42 or 0x43", and neither an error nor 40 00
+-- a value block has one of the formats 0x41 to 0x43; an error and 40 00 have others
 abbrev pub isValues : ℕ → Bool
 isValues f = leb 0x41 f && leb f 0x43
 
@@ -29,7 +29,7 @@ elementsAsked e = cond (eqb e 0) 1 e
 abbrev pub countFits : ℕ → ℕ → ℕ → Bool
 countFits e f n = not (isValues f) || eqb n (elementsAsked e)
 
--- each block beside the address that it answers
+-- each block beside the address that it answers; 02 has no blocks
 unfoldable pub countsFit : List Address → List Block → Bool
 countsFit [] bs = true
 countsFit (a ∷ more) [] = true
@@ -46,11 +46,11 @@ compared q r =
     0))))
 
 -- what a block reads as, where it is readable
-abbrev pub readAs : {A : Type 0} → Code A → List ℕ → Got A
+abbrev readAs : {A : Type 0} → Code A → List ℕ → Got A
 readAs c s = cond (readable blockLimit c s) (c .read s) bad
 
--- before them check 1, "the request is readable", and check 2, "the response is readable"
-abbrev pub judged : Got Request → Got Response → ℕ
+-- before them check 1, "the request is readable", and check 2, "the response is readable": neither where nothing is read
+abbrev judged : Got Request → Got Response → ℕ
 judged bad r = 1
 judged (got q s) bad = 2
 judged (got q s) (got r t) = compared q r

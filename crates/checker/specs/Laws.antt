@@ -5,23 +5,12 @@ use mathlib.Core.List.{List}
 use mathlib.Core.Logic.{_⊎_, _↔_}
 use Prim.Native.Nat.{ℕ, _≤_, _<_}
 use lib.ListN.{length, getD}
-use Rattle.blocks.specs.Block.{Block, blockLimit}
+use Rattle.blocks.specs.Block.{Block}
 use Rattle.blocks.specs.Request.{Request}
 use Rattle.blocks.specs.Response.{Response}
-use Rattle.blocks.specs.Page.{From, RequestFits, requestBytes, ResponseFits, responseBytes}
+use Rattle.blocks.specs.Page.{From, IsRequest, IsResponse}
 use Rattle.blocks.specs.declared.reader.Address.{Address}
 use Rattle.checker.specs.Check.{compared, checkOf}
-
--- "readable": the page writes these bytes, at most 240, from the request q, or from the response r
-pub record IsRequest (s : List ℕ) (q : Request) : Type 0 where
-  pub fits : RequestFits q
-  pub bytes : requestBytes q ≡ s
-  pub short : length s ≤ blockLimit
-
-pub record IsResponse (t : List ℕ) (r : Response) : Type 0 where
-  pub fits : ResponseFits r
-  pub bytes : responseBytes r ≡ t
-  pub short : length t ≤ blockLimit
 
 -- "01 with 01 or 81, 02 with 02 or 82"
 abbrev pub Matches : ℕ → ℕ → Type 0
@@ -37,37 +26,18 @@ abbrev pub EachCounted : List Address → List Block → Type 0
 EachCounted them bs =
     (x : Address) (y : Block) (k : ℕ) → k < length them → k < length bs → Counted (getD them k x) (getD bs k y)
 
--- the check number i in an answer n: it failed where that is its number, and held where n is 0 or a later one's
-pub record Tested (i n : ℕ) (Holds : Type 0) : Type 0 where
-  pub failed : n ≡ i → Holds → ⊥
-  pub held : (n ≡ 0) ⊎ (i < n) → Holds
+-- "has the same reference, axis and N, the matching identifier .., and in each value block a count equal to the elements asked": checks 3 to
+-- 7, and what is said of each by its number
+pub record Checks (Said : ℕ → Type 0 → Type 0) (q : Request) (r : Response) : Type 0 where
+  pub reference : Said 3 (r .reference ≡ q .reference)
+  pub axis : Said 4 (r .axis ≡ q .axis)
+  pub number : Said 5 (r .count ≡ length (q .addresses))
+  pub identifier : Said 6 (Matches (q .identifier) (r .identifier))
+  pub counts : Said 7 (EachCounted (q .addresses) (r .blocks))
 
--- "has the same reference, axis and N, the matching identifier .., and in each value block a count equal to the elements asked"
-pub record Compared (q : Request) (r : Response) (n : ℕ) : Type 0 where
-  pub reference : Tested 3 n (r .reference ≡ q .reference)
-  pub axis : Tested 4 n (r .axis ≡ q .axis)
-  pub number : Tested 5 n (r .count ≡ length (q .addresses))
-  pub identifier : Tested 6 n (Matches (q .identifier) (r .identifier))
-  pub counts : Tested 7 n (EachCounted (q .addresses) (r .blocks))
-
--- "the request is readable, the response is readable", and the rest of the two that they are
-pub record Checked (s t : List ℕ) (n : ℕ) : Type 0 where
-  pub most : n ≤ 7
-  pub request : Tested 1 n ((q : Request) × IsRequest s q)
-  pub response : Tested 2 n ((r : Response) × IsResponse t r)
-  pub rest : (q : Request) (r : Response) → IsRequest s q → IsResponse t r → Compared q r n
-
--- "For a no it names the first check that failed, in that order."
-abbrev pub FirstFailed : Type 0
-FirstFailed = (s t : List ℕ) → Checked s t (checkOf s t)
-
--- a response that answers a request, in plain words
-pub record Answers (q : Request) (r : Response) : Type 0 where
-  pub reference : r .reference ≡ q .reference
-  pub axis : r .axis ≡ q .axis
-  pub number : r .count ≡ length (q .addresses)
-  pub identifier : Matches (q .identifier) (r .identifier)
-  pub counts : EachCounted (q .addresses) (r .blocks)
+-- a response answers a request where each of them holds
+abbrev pub Answers : Request → Response → Type 0
+Answers = Checks (λ i Holds. Holds)
 
 pub record Passes (s t : List ℕ) : Type 0 where
   pub request : Request
@@ -79,6 +49,22 @@ pub record Passes (s t : List ℕ) : Type 0 where
 -- "says yes exactly when"
 abbrev pub YesExactly : Type 0
 YesExactly = (s t : List ℕ) → (checkOf s t ≡ 0) ↔ Passes s t
+
+-- the check number i in an answer n: it failed where that is its number, and held where n is 0 or a later one's
+pub record Tested (n i : ℕ) (Holds : Type 0) : Type 0 where
+  pub failed : n ≡ i → Holds → ⊥
+  pub held : (n ≡ 0) ⊎ (i < n) → Holds
+
+-- "the request is readable, the response is readable", and the rest of the two that they are
+pub record Verdict (s t : List ℕ) (n : ℕ) : Type 0 where
+  pub most : n ≤ 7
+  pub request : Tested n 1 ((q : Request) × IsRequest s q)
+  pub response : Tested n 2 ((r : Response) × IsResponse t r)
+  pub rest : (q : Request) (r : Response) → IsRequest s q → IsResponse t r → Checks (Tested n) q r
+
+-- "For a no it names the first check that failed, in that order."
+abbrev pub FirstFailed : Type 0
+FirstFailed = (s t : List ℕ) → Verdict s t (checkOf s t)
 
 -- of blocks that the page writes, the answer is that of the request and the response
 abbrev pub ComparesWritten : Type 0

@@ -1,7 +1,7 @@
 // Whether a response answers a request (document 02, R-4), on two blocks of any bytes and any length.
 ghost use mathlib.Core.Path.{_≡_};
 ghost use Rattle.checker.specs.Check.{matching, countFits, countsFit, compared, checkOf};
-ghost use Rattle.checker.specs.Walk.{AsRead};
+ghost use Rattle.checker.specs.Inner.{AsRead};
 use blocks::reader::Step;
 
 // Whether a response with the identifier `id` may answer a request with the identifier `asked`.
@@ -30,6 +30,7 @@ fn counts_fit(request: &[u8], response: &[u8]) -> bool
     ensures { λ b. ⌜ AsRead (now (request .entry)) (now (response .entry)) (λ q r. b ≡ countsFit (q .addresses) (r .blocks)) ⌝ }
 {
     let h = blocks::header_of(response);
+    // 02 ends with its header.
     if h.identifier == 2 {
         return true;
     }
@@ -38,6 +39,7 @@ fn counts_fit(request: &[u8], response: &[u8]) -> bool
     let mut left = h.count;
     while 0 < left {
         let s = blocks::reader::address_at(request, from);
+        // Blocks without an address answer nothing; N was compared before.
         let Step::Next(a, next) = s else {
             return true;
         };

@@ -1,6 +1,6 @@
 -- Demand 3 for any sound code, and carried over to a page that says the same values and bytes in plain words.
 use mathlib.Core.Path.{_≡_, refl, sym, _∙_, ap}
-use mathlib.Core.List.{List, [], _++_, append-nil}
+use mathlib.Core.List.{List, [], _++_}
 use mathlib.Core.Bool.{Bool, true, false, _&&_}
 use mathlib.Core.Logic.{_↔_}
 use Prim.Native.Nat.{ℕ, _≤_}
@@ -8,8 +8,8 @@ use lib.ListN.{length}
 use lib.Dec.{leb}
 use borrow.Author.Tests.{leb-true, le-leb}
 use Rattle.codes.specs.Code.{got, Code, readsAll, readable}
-use Rattle.codes.specs.Demand.{Writable, Demand3}
-use Rattle.codes.proofs.Sound.{Sound, read-iff-written, no-longer, only-one}
+use Rattle.codes.specs.Demand.{Writable, WrittenAs, Demand3}
+use Rattle.codes.proofs.Sound.{Sound, read-iff-written, read-back, no-longer, only-one}
 
 pub both : (a b : Bool) → a && b ≡ true → (a ≡ true) × (b ≡ true)
 both true b e = (refl, e)
@@ -25,7 +25,7 @@ module _ {A : Type 0} (most : ℕ) (c : Code A) (sc : Sound c) where
 
   -- a readable block is read to its end, as one value
   pub readable-read : (s : List ℕ) → readable most c s ≡ true → (a : A) × (c .read s ≡ got a [])
-  readable-read s e = let w = written s e in (w .0, ap (c .read) (sym (append-nil (c .write (w .0)) ∙ w .2)) ∙ sc .back (w .0) [] (w .1))
+  readable-read s e = let w = written s e in (w .0, ap (c .read) (sym (w .2)) ∙ read-back c sc (w .0) (w .1))
 
   back : (s : List ℕ) → (length s ≤ most) × Writable (c .Valid) (c .write) s → readable most c s ≡ true
   unfolding readable
@@ -58,3 +58,17 @@ module _ {A : Type 0} {most : ℕ} {Valid Fits : A → Type 0} {write page : A �
         unique = λ a b v w e. d .unique a b (valid a .1 v) (valid b .1 w) (same a ∙ (e ∙ sym (same b)));
         final = d .final;
       }
+
+-- a list is readable exactly where it is written as some value,
+module _ {A : Type 0} {most : ℕ} {Valid : A → Type 0} {write : A → List ℕ} {test : List ℕ → Bool} (d : Demand3 most Valid write test) (s : List ℕ) where
+  pub written-as : test s ≡ true → (a : A) × WrittenAs most Valid write s a
+  written-as e = let w = d .exact s .0 e in (w .1 .0, record { fits = w .1 .1; bytes = w .1 .2; short = w .0 })
+
+  pub is-readable : (a : A) → WrittenAs most Valid write s a → test s ≡ true
+  is-readable a w = d .exact s .1 (w .short, (a, w .fits, w .bytes))
+
+-- and is then read as that
+pub page-read :
+    {A : Type 0} {Fits : A → Type 0} {page : A → List ℕ} (c : Code A) → Sound c → ((a : A) → c .Valid a ↔ Fits a) → ((a : A) → c .write a ≡ page a)
+    → (most : ℕ) (s : List ℕ) (a : A) → WrittenAs most Fits page s a → c .read s ≡ got a []
+page-read c sc valid same most s a w = ap (c .read) (sym (same a ∙ w .bytes)) ∙ read-back c sc a (valid a .1 (w .fits))

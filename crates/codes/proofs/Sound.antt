@@ -148,17 +148,17 @@ valid-word (suc w) x h =
 
 -- The three theorems of demand 3, for any sound code.
 module _ {A : Type 0} (c : Code A) (sc : Sound c) where
+  -- what is written is read back as it was, with nothing left over
+  pub read-back : (a : A) → c .Valid a → c .read (c .write a) ≡ got a []
+  read-back a v = rw append-nil at (sc .back a [] v)
+
   pub read-iff-written : (s : List ℕ) → (readsAll c s ≡ true) ↔ Writable (c .Valid) (c .write) s
-  read-iff-written s = (go (c .read s) refl, λ w. rw (← w .2, ← append-nil (c .write (w .0)), sc .back (w .0) [] (w .1)))
+  read-iff-written s = (go (c .read s) refl, λ w. rw (← w .2, read-back (w .0) (w .1)))
     where
       go : (g : Got A) → c .read s ≡ g → isWhole g ≡ true → Writable (c .Valid) (c .write) s
       go (got a []) e h = let p = sc .only s a [] e in (a, p .0, sym (p .1 ∙ append-nil (c .write a)))
       go (got a (x ∷ t)) e h = absurd (let z : _≡_ {A = ℕ} 0 1 = cc in omega arith)
       go bad e h = absurd (let z : _≡_ {A = ℕ} 0 1 = cc in omega arith)
-
-  -- what is written is read back as it was, with nothing left over
-  pub read-back : (a : A) → c .Valid a → c .read (c .write a) ≡ got a []
-  read-back a v = rw append-nil at (sc .back a [] v)
 
   pub no-longer : (a b : A) (t : List ℕ) → c .Valid a → c .Valid b → c .write a ++ t ≡ c .write b → (t ≡ []) × (a ≡ b)
   no-longer a b t va vb e =

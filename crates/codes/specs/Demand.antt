@@ -12,6 +12,12 @@ use lib.ListN.{length}
 abbrev pub Writable : {A : Type 0} → (A → Type 0) → (A → List ℕ) → List ℕ → Type 0
 Writable {A} Valid write s = (a : A) × Valid a × (write a ≡ s)
 
+-- and it is this value, in at most so many bytes
+pub record WrittenAs {A : Type 0} (most : ℕ) (Valid : A → Type 0) (write : A → List ℕ) (s : List ℕ) (a : A) : Type 0 where
+  pub fits : Valid a
+  pub bytes : write a ≡ s
+  pub short : length s ≤ most
+
 pub record Demand3 {A : Type 0} (most : ℕ) (Valid : A → Type 0) (write : A → List ℕ) (readable : List ℕ → Bool) : Type 0 where
   pub exact : (s : List ℕ) → (readable s ≡ true) ↔ ((length s ≤ most) × Writable Valid write s)
   pub unique : (a b : A) → Valid a → Valid b → write a ≡ write b → a ≡ b

@@ -3,6 +3,7 @@
 use mathlib.Core.Path.{_≡_, refl, ap, _∙_}
 use mathlib.Core.Bool.{Bool, true, false}
 use mathlib.Core.List.{List, [], _∷_, _++_, map}
+use mathlib.Core.Logic.{inl, inr}
 use Prim.Native.Nat.{ℕ, _-_, _≤_}
 use native.Mathlib.Omega.{arith}
 use lib.Dec.{eqb, lit≤, lit<}
@@ -228,7 +229,7 @@ module _ (r : Request) (fits : RequestFits r) (short : length (requestBytes r) �
       → Responded 16 r s m (cycle 16 largest ∷ frame 16 marksFrame g ∷ exchange 16 f h ∷ frame 15 fetchFrame g ∷ []) 240 w
   most f g h rest mine =
       responds-as-ruled 16 r s m (cycle 16 largest ∷ frame 16 marksFrame g ∷ exchange 16 f h ∷ frame 15 fetchFrame g ∷ []) 240 w rest fits short mine room
-      (record { fits = λ e. fit; stays = λ e. refl }, (record { fits = λ e. tt; stays = λ e. refl }, (record { fits = λ e. tt; stays = λ e. refl }, (record { fits = λ e. tt; stays = λ e. absurd (omega arith) }, tt))))
+      (record { fits = λ e. fit; stays = λ e. inl refl }, (record { fits = λ e. tt; stays = λ e. inl refl }, (record { fits = λ e. tt; stays = λ e. inl refl }, (record { fits = λ e. tt; stays = λ e. absurd (omega arith) }, tt))))
       (answer-short r (partOf 16 s) fits) (lit≤ tt) wide
 
   -- MergesAsRuled: what a merged call answers, and that nothing waits then
@@ -264,7 +265,7 @@ module _ (m s : List ℕ) where
   fetch-done : (w : List ℕ) → 244 ≤ length w → numberIn (answer kinds (frame 1 marksFrame m) s) ≡ 0
       → numberIn (answer kinds (frame 1 fetchFrame w) (after kinds (exchange 1 marksFrame w) (after kinds (frame 1 marksFrame m) s))) ≡ 0
   unfolding runEnd
-  fetch-done w wide done = fetch-follows 1 marksFrame m s (exchange 1 marksFrame w ∷ []) w refl done (record { fits = λ e. tt; stays = λ e. refl }, tt) wide
+  fetch-done w wide done = fetch-follows 1 marksFrame m s (exchange 1 marksFrame w ∷ []) w refl done (record { fits = λ e. tt; stays = λ e. inl refl }, tt) wide
 
   two-calls : (write fetch : Framed) (m′ m″ : List ℕ) → answer kinds (frame 1 marksFrame m) s ≡ toFrame write m′ → write .number ≡ 0
       → answer kinds (frame 1 fetchFrame m′) (after kinds (frame 1 marksFrame m) s) ≡ toFrame fetch m″
@@ -285,14 +286,19 @@ module _ (m s : List ℕ) where
       (answer kinds (exchange 16 (0x5E ∷ 1 ∷ 0x2F ∷ 0 ∷ 0 ∷ []) m) s ≡ answer kinds (frame 16 [] m) s) × (after kinds (exchange 16 (0x5E ∷ 1 ∷ 0x2F ∷ 0 ∷ 0 ∷ []) m) s ≡ s)
   read-as-no-frame = read-as-none 16 (0x5E ∷ 1 ∷ 0x2F ∷ 0 ∷ 0 ∷ []) m s refl
 
--- FetchedPasses and MergedPasses: a fetch of 8 bytes after the worked write, with a merged call between, and any merged call of the last farm
+-- FetchedPasses and MergedPasses: a fetch of 8 bytes after the worked write, with one between that was refused, and any merged call of the
+-- last farm
 module _ (m s : List ℕ) where
-  fetched-block : (w w′ : List ℕ) (a : Framed) → numberIn (answer kinds (frame 1 marksFrame m) s) ≡ 0
-      → answer kinds (frame 1 (0x5E ∷ 0 ∷ 0x2F ∷ 8 ∷ []) w) (after kinds (exchange 1 marksFrame w) (after kinds (frame 1 marksFrame m) s)) ≡ toFrame a w′ → a .number ≡ 0
+  abbrev wrote-marks : List ℕ
+  wrote-marks = after kinds (frame 1 marksFrame m) s
+
+  fetched-block : (w w′ : List ℕ) (a : Framed) → numberIn (answer kinds (frame 1 marksFrame m) s) ≡ 0 → numberIn (answer kinds (frame 1 (0x5E ∷ 0 ∷ 0x2F ∷ 7 ∷ []) w) wrote-marks) ≡ 9
+      → answer kinds (frame 1 (0x5E ∷ 0 ∷ 0x2F ∷ 8 ∷ []) w) (after kinds (frame 1 (0x5E ∷ 0 ∷ 0x2F ∷ 7 ∷ []) w) wrote-marks) ≡ toFrame a w′ → a .number ≡ 0
       → checkOf (drop 4 marksFrame) (take (a .length - 4) (drop 4 w′)) ≡ 0
   unfolding runEnd
-  fetched-block w w′ a done e n =
-      fetched-passes 1 marksFrame m s (exchange 1 marksFrame w ∷ []) (0x5E ∷ 0 ∷ 0x2F ∷ 8 ∷ []) w a w′ refl done (record { fits = λ z. tt; stays = λ z. refl }, tt) refl e n
+  fetched-block w w′ a done nine e n =
+      fetched-passes 1 marksFrame m s (frame 1 (0x5E ∷ 0 ∷ 0x2F ∷ 7 ∷ []) w ∷ []) (0x5E ∷ 0 ∷ 0x2F ∷ 8 ∷ []) w a w′ refl done
+      (record { fits = λ z. tt; stays = λ z. inr (λ none. omega arith) }, tt) refl e n
 
   merged-block : (f w : List ℕ) (a : Framed) → answer kinds (exchange 16 f m) s ≡ toFrame a w → a .number ≡ 0 → checkOf (drop 4 f) (take (a .length - 4) (drop 4 w)) ≡ 0
   merged-block f w a e n = merged-passes 16 f m s a w e n

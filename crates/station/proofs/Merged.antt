@@ -1,6 +1,6 @@
 -- A merged call is its write and the fetch in turn, or the write alone, or for a read no frame at all.
 use mathlib.Core.Path.{_≡_, refl, sym, ap, subst, _∙_}
-use mathlib.Core.Bool.{Bool, true, false, _||_}
+use mathlib.Core.Bool.{Bool, true, false, or-false}
 use mathlib.Core.List.{List, [], _∷_, _++_}
 use Prim.Native.Nat.{ℕ, zero, suc, _+_, _-_, _*_, _≤_, _<_}
 use native.Mathlib.Omega.{arith}
@@ -13,7 +13,6 @@ use Rattle.blocks.specs.Request.{Request}
 use Rattle.blocks.specs.Response.{response}
 use Rattle.blocks.specs.Page.{RequestFits, requestBytes, responseBytes}
 use Rattle.blocks.proofs.Page.{response-bytes}
-use Rattle.blocks.proofs.Demand.{request-back}
 use Rattle.part.specs.Layout.{partSize, waitingLength, withResponse}
 use Rattle.part.proofs.Laws.{response-again}
 use Rattle.access.specs.Work.{worked, Outcome}
@@ -37,7 +36,7 @@ use Rattle.station.proofs.Passes.{fetched-part, left-is}
 use Rattle.station.proofs.ExchangeOwes.{alone, done-in-turn}
 use Rattle.station.proofs.Owes.{sized}
 use Rattle.station.proofs.Refusals.{is-refused, was-done, done-tests}
-use Rattle.station.proofs.Responds.{reads, responds-as-ruled}
+use Rattle.station.proofs.Responds.{reads, reads-back, responds-as-ruled}
 
 -- a frame's answer, and its reply memory
 abbrev pub toldIn : Answer → Framed
@@ -128,10 +127,6 @@ read-as-none k f m s is =
     (refused-alike k f m s (λ z. nothing k m s (ap (λ (l : List ℕ). numberIn (answer kinds (frame k l m) s)) (sym none) ∙ z))) in
     (same .0, same .1 ∙ is-refused (frame k [] m) s (nothing k m s) .kept)
 
-only-left : (a b : Bool) → b ≡ false → a || b ≡ true → a ≡ true
-only-left true b e h = refl
-only-left false b e h = cc
-
 -- a merged call that was done is a write that was
 pub was-written : (k : ℕ) (f m s : List ℕ) → numberIn (answer kinds (exchange k f m) s) ≡ 0 → (isWrite f ≡ true) × (numberIn (answer kinds (frame k f m) s) ≡ 0)
 unfolding frameAnswer
@@ -142,7 +137,7 @@ was-written k f m s z = go (numberIn (answer kinds (frame k (noRead f) m) s)) re
     go zero e true r = absurd (nothing k m s (rw r at e))
     go zero e false r =
         let done : numberIn (answer kinds (frame k f m) s) ≡ 0 = rw r at e in
-        (only-left (isWrite f) (isRead f) r (done-passes k f (length m) (partOf k s) (was-done (frame k f m) s done .1) .function), done)
+        (rw (r, or-false) at (done-passes k f (length m) (partOf k s) (was-done (frame k f m) s done .1) .function), done)
 
 -- the acknowledgement is overwritten by what is fetched
 over : (reply more m : List ℕ) → length reply ≡ 4 → drop (4 + length more) (reply ++ drop 4 m) ≡ drop (4 + length more) m
@@ -156,7 +151,7 @@ wrote-part :
     → frameRefusal k (writeOf r) (length m) p ≡ 0
     → framePart k (writeOf r) m p ≡ withResponse (response .write (worked r p .response)) (worked r p .part)
 wrote-part k r m p fit short mine e =
-    left-is k (writeOf r) m p e refl ∙ ap (λ (o : Outcome). o .part) (taken-is k (requestBytes r) p r (reads r fit short) (request-back r fit) mine)
+    left-is k (writeOf r) m p e refl ∙ ap (λ (o : Outcome). o .part) (taken-is k (requestBytes r) p r (reads r fit short) (reads-back r fit short) mine)
 
 pub merges-as-ruled : MergesAsRuled
 unfolding runEnd frameAnswer

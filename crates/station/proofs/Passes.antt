@@ -10,16 +10,17 @@ use lib.ListN.{length, take, drop, length-drop}
 use lib.Seq.{length-take-le}
 use borrow.Author.Tests.{eq-eqb, ne-eqb, le-leb, le-ltb}
 use Rattle.codes.specs.Code.{readable}
+use Rattle.codes.proofs.Demand.{written-as}
 use Rattle.blocks.specs.declared.Header.{Header}
 use Rattle.blocks.specs.Block.{blockLimit}
 use Rattle.blocks.specs.Request.{Request, request}
 use Rattle.blocks.specs.Response.{response}
 use Rattle.blocks.specs.Place.{headerOf}
+use Rattle.blocks.specs.Page.{IsRequest}
 use Rattle.blocks.proofs.Request.{request-header}
+use Rattle.blocks.proofs.Demand.{requests, request-read}
 use Rattle.part.specs.Layout.{responseAt, responseRoom, waitingLength, waiting, withResponse}
 use Rattle.part.specs.WellFormed.{wellFormed}
-use Rattle.checker.specs.Laws.{IsRequest}
-use Rattle.checker.proofs.Laws.{request-of, request-read}
 use Rattle.access.specs.Work.{worked, outcomeOf}
 use Rattle.station.specs.Frame.{isWrite, blockOf, fetchOf, frameTests, frameRefusal, framePart}
 use Rattle.station.specs.Exchange.{fetchAll}
@@ -72,7 +73,7 @@ module _ (k : ℕ) (f m p : List ℕ) (e : frameRefusal k f (length m) p ≡ 0) 
 
   -- the request that it writes, and what then waits
   pub wrote : (r : Request) × IsRequest (blockOf f) r
-  wrote = request-of (blockOf f) (mine k f (length m) p tested is .reads)
+  wrote = written-as requests (blockOf f) (mine k f (length m) p tested is .reads)
 
   pub waits-then :
       (waiting (framePart k f m p) ≡ response .write (worked (wrote .0) p .response))

@@ -3,20 +3,22 @@
 use mathlib.Core.Path.{_≡_, refl, sym, ap, subst, _∙_}
 use mathlib.Core.Bool.{Bool, true, false}
 use mathlib.Core.List.{List, [], _∷_}
+use mathlib.Core.Logic.{_⊎_, inl, inr}
 use Prim.Native.Nat.{ℕ, _≤_}
 use native.Mathlib.Omega.{arith}
 use lib.Dec.{eqb, lit≤}
 use lib.ListN.{length, take}
 use borrow.Author.Tests.{eqb-true, eqb-false}
-use Rattle.codes.specs.Code.{got, AllOf, readable}
+use Rattle.codes.specs.Code.{got, readable}
+use Rattle.codes.proofs.Demand.{is-readable}
 use Rattle.blocks.specs.Block.{blockLimit}
 use Rattle.blocks.specs.Request.{Request, request}
 use Rattle.blocks.specs.Place.{headerOf}
-use Rattle.blocks.specs.Page.{RequestFits, requestBytes, responseBytes}
+use Rattle.blocks.specs.Page.{RequestFits, requestBytes, responseBytes, IsRequest}
 use Rattle.blocks.specs.declared.Header.{Header}
 use Rattle.blocks.proofs.Request.{request-header}
 use Rattle.blocks.proofs.Page.{response-bytes}
-use Rattle.blocks.proofs.Demand.{requests, request-back}
+use Rattle.blocks.proofs.Demand.{requests, request-read}
 use Rattle.part.specs.Layout.{responseRoom, waitingLength, waiting, withResponse}
 use Rattle.part.specs.WellFormed.{wellFormed}
 use Rattle.part.proofs.Laws.{waiting-length-is}
@@ -28,21 +30,27 @@ use Rattle.station.specs.Exchange.{fetchAll}
 use Rattle.station.specs.Runs.{runEnd}
 use Rattle.station.specs.Isolation.{answer, after, machine}
 use Rattle.station.specs.Calls.{Call, frame, toFrame, numberIn, kindOf, owner, kinds}
-use Rattle.station.specs.Laws.{writeOf, Between, replied, RespondsAsRuled, FetchFollows}
+use Rattle.station.specs.Laws.{writeOf, MayCome, Between, replied, RespondsAsRuled, FetchFollows}
 use Rattle.station.proofs.Isolation.{Right, took-answer, fine, length-after, own, other}
 use Rattle.station.proofs.Passes.{waits-all, write-passes, fetch-passes, fetched-part, left-formed, left-is, something-waits}
 use Rattle.station.proofs.Owes.{owes, sized}
 use Rattle.station.proofs.Frames.{formed}
-use Rattle.station.proofs.Refusals.{was-done, reply-stands}
+use Rattle.station.proofs.Refusals.{is-refused, was-done, reply-stands}
 use Rattle.station.proofs.Sends.{taken-is, waits-as-ruled}
 
 -- a request of the page, as its block
 module _ (r : Request) (fits : RequestFits r) (short : length (requestBytes r) ≤ blockLimit) where
+  is-request : IsRequest (requestBytes r) r
+  is-request = record { fits = fits; bytes = refl; short = short }
+
   pub reads : readable blockLimit request (requestBytes r) ≡ true
-  reads = requests .exact (requestBytes r) .1 (short, (r, fits, refl))
+  reads = is-readable requests (requestBytes r) r is-request
+
+  pub reads-back : request .read (requestBytes r) ≡ got r []
+  reads-back = request-read (requestBytes r) r is-request
 
   axis-is : headerOf (requestBytes r) .axis ≡ r .axis
-  axis-is = ap (λ (h : Header). h .axis) (request-header (requestBytes r) r [] (request-back r fits))
+  axis-is = ap (λ (h : Header). h .axis) (request-header (requestBytes r) r [] reads-back)
 
 -- what a write and a fetch that pass answer and leave
 module _ (k : ℕ) (f m p : List ℕ) (e : frameRefusal k f (length m) p ≡ 0) where
@@ -86,25 +94,34 @@ module _ (k : ℕ) (low : 1 ≤ k) (high : k ≤ farms) (bs : List ℕ) (some : 
   full : (p : List ℕ) → waiting p ≡ bs → waitingLength p ≡ 0 → ⊥
   full p same none = some (sym same ∙ ap (λ (n : ℕ). take n (responseRoom p)) none)
 
-  one-call : (c : Call) (s : List ℕ) → Between k c → Waits k bs s → Waits k bs (after kinds c s)
+  kept : (c : Call) (s : List ℕ) → (numberIn (answer kinds c s) ≡ 0 → ⊥) → Waits k bs s → Waits k bs (after kinds c s)
+  kept c s refused h = subst (Waits k bs) (sym (is-refused c s refused .kept)) h
+
+  unfetched : (c : Call) (s : List ℕ) → owner c ≡ k → kindOf c .Fits → kindOf c .fetches ≡ false → Waits k bs s → Waits k bs (after kinds c s)
+  unfetched c s same fit stays h =
+      let here : Right (owner c) (length s) = subst (λ (j : ℕ). Right j (length s)) (sym same) (at-home s (h .size)) in
+      let mine : partOf k (after kinds c s) ≡ kindOf c .leaves (partOf k s) =
+      subst (λ (j : ℕ). partOf j (after kinds c s) ≡ kindOf c .leaves (partOf j s)) same (own kinds sized c s here) in
+      record {
+        size = length-after kinds sized c s ∙ h .size;
+        formed =
+            ap (wellFormed k) mine
+            ∙ subst (λ (j : ℕ). wellFormed j (partOf j s) ≡ true → wellFormed j (kindOf c .leaves (partOf j s)) ≡ true) same (owes c .formed (partOf (owner c) s) fit) (h .formed);
+        waits = ap waiting mine ∙ (owes c .waits (partOf k s) stays (full (partOf k s) (h .waits)) ∙ h .waits);
+      }
+
+  one-call : (c : Call) (s : List ℕ) → MayCome k c s → Waits k bs s → Waits k bs (after kinds c s)
   one-call c s b h = go (eqb (owner c) k) refl
     where
+      mine : owner c ≡ k → (kindOf c .fetches ≡ false) ⊎ (numberIn (answer kinds c s) ≡ 0 → ⊥) → Waits k bs (after kinds c s)
+      mine same (inl stays) = unfetched c s same (b .fits same) stays h
+      mine same (inr refused) = kept c s refused h
+
       go : (t : Bool) → eqb (owner c) k ≡ t → Waits k bs (after kinds c s)
       go false e = elsewhere c s h (eqb-false (owner c) k e)
-      go true e =
-          let same : owner c ≡ k = eqb-true (owner c) k e in
-          let here : Right (owner c) (length s) = subst (λ (j : ℕ). Right j (length s)) (sym same) (at-home s (h .size)) in
-          let mine : partOf k (after kinds c s) ≡ kindOf c .leaves (partOf k s) =
-          subst (λ (j : ℕ). partOf j (after kinds c s) ≡ kindOf c .leaves (partOf j s)) same (own kinds sized c s here) in
-          record {
-            size = length-after kinds sized c s ∙ h .size;
-            formed =
-                ap (wellFormed k) mine
-                ∙ subst (λ (j : ℕ). wellFormed j (partOf j s) ≡ true → wellFormed j (kindOf c .leaves (partOf j s)) ≡ true) same (owes c .formed (partOf (owner c) s) (b .fits same)) (h .formed);
-            waits = ap waiting mine ∙ (owes c .waits (partOf k s) (b .stays same) (full (partOf k s) (h .waits)) ∙ h .waits);
-          }
+      go true e = let same = eqb-true (owner c) k e in mine same (b .stays same)
 
-  many-calls : (cs : List Call) (s : List ℕ) → AllOf (Between k) cs → Waits k bs s → Waits k bs (runEnd (machine kinds) cs s)
+  many-calls : (cs : List Call) (s : List ℕ) → Between k cs s → Waits k bs s → Waits k bs (runEnd (machine kinds) cs s)
   unfolding runEnd
   many-calls [] s b h = h
   many-calls (c ∷ cs) s b h = many-calls cs (after kinds c s) (b .1) (one-call c s (b .0) h)
@@ -114,7 +131,7 @@ responds-as-ruled k r s m between n w rest fits short mine room calls enough mos
     let p : List ℕ = partOf k s in
     let home : Right k (length s) = record { low = rest .low; high = rest .high; size = rest .size } in
     let bytes = reads r fits short in
-    let back = request-back r fits in
+    let back = reads-back r fits short in
     let write = frame k (writeOf r) m in
     let pass = write-passes k m p (rest .formed) room (requestBytes r) (rest .idle) short bytes (axis-is r fits short ∙ mine) in
     let first = written k (writeOf r) m p pass refl in
@@ -148,8 +165,8 @@ responds-as-ruled k r s m between n w rest fits short mine room calls enough mos
           ∙ waiting-length-is [] q (formed k q (still .formed) .0) (omega arith);
     }
 
--- a write that was done, and calls after it that do not fetch: what it left waiting waits still
-module _ (k : ℕ) (f m s : List ℕ) (between : List Call) (is : isWrite f ≡ true) (z : numberIn (answer kinds (frame k f m) s) ≡ 0) (calls : AllOf (Between k) between) where
+-- a write that was done, and calls after it that do not fetch or are refused: what it left waiting waits still
+module _ (k : ℕ) (f m s : List ℕ) (between : List Call) (is : isWrite f ≡ true) (z : numberIn (answer kinds (frame k f m) s) ≡ 0) (calls : Between k between (after kinds (frame k f m) s)) where
   abbrev after-write : List ℕ
   after-write = framePart k f m (partOf k s)
 
@@ -159,7 +176,7 @@ module _ (k : ℕ) (f m s : List ℕ) (between : List Call) (is : isWrite f ≡ 
   was-right : Right k (length s)
   was-right = was-done (frame k f m) s z .0
 
-  pub was-taken : frameRefusal k f (length m) (partOf k s) ≡ 0
+  was-taken : frameRefusal k f (length m) (partOf k s) ≡ 0
   unfolding frameAnswer
   was-taken = was-done (frame k f m) s z .1
 

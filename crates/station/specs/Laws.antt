@@ -3,6 +3,7 @@
 use mathlib.Core.Path.{_≡_}
 use mathlib.Core.Bool.{Bool, true, false, cond, not, _&&_, _||_}
 use mathlib.Core.List.{List, [], _∷_, _++_}
+use mathlib.Core.Logic.{_⊎_}
 use Prim.Native.Nat.{ℕ, _-_, _≤_}
 use lib.Dec.{eqb, leb}
 use lib.ListN.{length, take, drop}
@@ -140,10 +141,16 @@ pub record AtRest (k : ℕ) (s : List ℕ) : Type 0 where
 abbrev pub writeOf : Request → List ℕ
 writeOf r = 0x5F ∷ 0 ∷ 0x2F ∷ length (requestBytes r) ∷ requestBytes r
 
--- what may come between a write of farm k and its fetch: every call of others, and of its own every one that does not fetch
-pub record Between (k : ℕ) (c : Call) : Type 0 where
+-- what may come between a write of farm k and its fetch, on the station s: every call of others, and of its own every one that does not
+-- fetch or is refused
+pub record MayCome (k : ℕ) (c : Call) (s : List ℕ) : Type 0 where
   pub fits : owner c ≡ k → kindOf c .Fits
-  pub stays : owner c ≡ k → kindOf c .fetches ≡ false
+  pub stays : owner c ≡ k → (kindOf c .fetches ≡ false) ⊎ (numberIn (answer kinds c s) ≡ 0 → ⊥)
+
+-- such calls, one after the other
+abbrev pub Between : ℕ → List Call → List ℕ → Type 0
+Between k [] s = Unit {0}
+Between k (c ∷ cs) s = MayCome k c s × Between k cs (after kinds c s)
 
 -- a frame that was worked: the elements stored, and the reply, past which the reply memory m is as it was
 abbrev pub replied : List ℕ → ℕ → List ℕ → Answer
@@ -174,7 +181,7 @@ abbrev pub RespondsAsRuled : Type 0
 RespondsAsRuled =
     (k : ℕ) (r : Request) (s m : List ℕ) (between : List Call) (n : ℕ) (w : List ℕ)
     → AtRest k s → RequestFits r → length (requestBytes r) ≤ blockLimit → r .axis ≡ k → 244 ≤ length m
-    → AllOf (Between k) between
+    → Between k between (after kinds (frame k (writeOf r) m) s)
     → length (responseBytes (worked r (partOf k s) .response)) ≤ n → n ≤ blockLimit → 244 ≤ length w
     → Responded k r s m between n w
 
@@ -182,7 +189,7 @@ RespondsAsRuled =
 abbrev pub FetchFollows : Type 0
 FetchFollows =
     (k : ℕ) (f m s : List ℕ) (between : List Call) (w : List ℕ)
-    → isWrite f ≡ true → numberIn (answer kinds (frame k f m) s) ≡ 0 → AllOf (Between k) between → 244 ≤ length w
+    → isWrite f ≡ true → numberIn (answer kinds (frame k f m) s) ≡ 0 → Between k between (after kinds (frame k f m) s) → 244 ≤ length w
     → numberIn (answer kinds (frame k fetchAll w) (runEnd (machine kinds) between (after kinds (frame k f m) s))) ≡ 0
 
 -- so a merged call "equals the two calls made in turn from the same station": the fetch's answer, with what the write stored,
@@ -228,7 +235,7 @@ blockSent a m = take (a .length - 4) (drop 4 m)
 abbrev pub FetchedPasses : Type 0
 FetchedPasses =
     (k : ℕ) (f m s : List ℕ) (between : List Call) (g w : List ℕ) (a : Framed) (w′ : List ℕ)
-    → isWrite f ≡ true → numberIn (answer kinds (frame k f m) s) ≡ 0 → AllOf (Between k) between
+    → isWrite f ≡ true → numberIn (answer kinds (frame k f m) s) ≡ 0 → Between k between (after kinds (frame k f m) s)
     → isRead g ≡ true → answer kinds (frame k g w) (runEnd (machine kinds) between (after kinds (frame k f m) s)) ≡ toFrame a w′ → a .number ≡ 0
     → checkOf (blockOf f) (blockSent a w′) ≡ 0
 

@@ -4,18 +4,18 @@ use Prim.Native.Nat.{ℕ, _+_, _-_, _*_, _≤_}
 use native.Mathlib.Omega.{arith}
 use denote.Ref.{now}
 use borrow.Author.Tests.{not-true, not-false}
-use Rattle.blocks.specs.Block.{valuesSize}
 use Rattle.blocks.specs.declared.Header.{Header}
 use Rattle.blocks.proofs.Blocks.{values-few}
-use Rattle.checker.specs.Walk.{AsRead}
+use Rattle.checker.specs.Inner.{AsRead}
 use Rattle.checker.proofs.Counting.{Counting, unanswered, begins, no-address, no-block, turn-fails, turn}
 use borrow.Author.Needs.{needs}
 use Rattle.checker.proofs.counts_fit.Statement.{statement}
 use Rattle.checker.proofs.counts_fit.Tie as tie
 
+-- no block takes more than 1022 bytes, and there are at most 255 of them
 abbrev Inv-loop : tie.InvT-loop
 Inv-loop request response from₀ at₀ left₀ from at left =
-    (at + 1022 * left ≤ 300000) × AsRead request response (λ q r. Counting request response q r from at left)
+    (at + 1022 * left ≤ 4 + 1022 * 255) × AsRead request response (λ q r. Counting request response q r from at left)
 
 abbrev μ-loop : tie.MeasureT-loop
 μ-loop request response from₀ at₀ left₀ from at left = left
