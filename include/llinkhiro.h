@@ -9,7 +9,7 @@
  * MEMORY
  *
  * The library keeps nothing: no heap, no globals, no pointer after a call returns. All of a station is in one block of
- * llinkhiro_size() bytes that the caller owns, of any alignment. Lend it, with its size, to every call. Its bytes may be
+ * llinkhiro_size() bytes that the caller owns, of any alignment. Lend it, with its size, to every call on it. Its bytes may be
  * saved, moved or copied between calls; what they mean is the library's, so change them by calls alone. Two stations are two
  * blocks. The library takes no lock: calls on one station are made one at a time.
  *
@@ -19,8 +19,8 @@
  *
  * NUMBERS
  *
- * Every call answers a number: 0 where it was done, else why it was refused. The tests are made in the order of the numbers,
- * so that the first reason is the one given. After a refusal the whole station is as it was before the call, and no element
+ * Every call on a station answers a number: 0 where it was done, else why it was refused. The tests are made in the order of
+ * the numbers, so that the first reason is the one given. After a refusal the whole station is as it was before the call, and no element
  * was stored. A response that waits is not lost by a refusal.
  *
  *    1  farm or axis is not 1 to 16
@@ -151,8 +151,8 @@ struct llinkhiro_framed llinkhiro_exchange(uint8_t *station, size_t station_len,
  *    7  each of its blocks of values (formats 41 to 43) has as many values as its address asked elements, where 0 elements
  *       count as 1; a block without values (40 00, or an error) passes
  *
- * It knows no parameter: neither a value's size nor what a drive's parameters are is checked. Every response of our own
- * station, by llinkhiro_frame or llinkhiro_exchange, is a yes for its request.
+ * It knows no catalogue: it tests neither a value's size, nor whether a parameter exists, nor whether the axis is 1 to 16.
+ * Every response of our own station, by llinkhiro_frame or llinkhiro_exchange, is a yes for its request.
  */
 uint8_t llinkhiro_check(const uint8_t *request, size_t request_len, const uint8_t *response, size_t response_len);
 
