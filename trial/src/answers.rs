@@ -1,28 +1,32 @@
 //! A partner's answers: the words for a check of two blocks, and logs of frames, read and checked.
 //!
 //! Whether a response answers a request is the library's to say, by a number (`face::check`). The words beside the number tell
-//! what the twin reads in the two blocks.
+//! what the twin reads in the two blocks, or why one is not readable (`faults`).
 //!
-//! A log is two texts of frames in hex, a frame a line; blank lines and all that follows a `#` are passed over. The frames of
-//! the first text were sent, and the k-th frame of the second answers the k-th of the first:
+//! A log is two texts of frames in hex, a frame a line; blank lines, all that follows a `#`, commas and a 0x before a word are
+//! passed over. The frames of the first text were sent, and the k-th frame of the second answers the k-th of the first:
 //!
 //! | sent | answer | |
 //! |---|---|---|
-//! | write: 5F 00 2F, length, block | acknowledgement: 5F 00 2F and the same length | the write's block waits for its response |
-//! | write | response: 5E 00 2F, length, block | checked against the write's block |
-//! | read: 5E 00 2F, most bytes wanted | response | checked against the block that waits, which waits no more |
+//! | write: 5F, slot, 2F, length, block | acknowledgement: 5F, slot, 2F, length | the write's block waits for its response |
+//! | write | response: 5E, slot, 2F, length, block | checked against the write's block |
+//! | read: 5E, slot, 2F, most bytes wanted | response | checked against the block that waits, which waits no more |
 //! | any | refusal: DF (of a write) or DE (of a read), 80, code, 00 | told; what waits goes on waiting |
 //!
-//! Everything else is a wrong frame, which is told as a no in words of its own. An acknowledgement with another length is wrong
-//! too, but the write's block waits after it, so that its response is checked.
+//! A log is of one farm: a fetch names no axis, and is taken for that of the last write that was acknowledged. A write that is
+//! acknowledged and gets no response, or none before another takes its place, is counted in the last line and is no no.
+//!
+//! What is sent may have any slot, as other makers have others, and its answer has the same. An acknowledgement has the length
+//! of its write, and a response no more bytes than its read wants. Everything else is a wrong frame, which is told as a no in
+//! words of its own. After an acknowledgement of another slot or length the write's block waits all the same, so that its
+//! response is checked; after a response of another slot or too long it waits no more.
 
 use crate::cases::read_bytes;
-use crate::layout::Block;
-use crate::sending::{READ, WRITE};
+use crate::faults::{self, counted};
+use crate::layout::{Block, Side};
+use crate::sending::{INDEX, READ, WRITE};
 use std::fmt::{self, Display, Formatter};
-use twin::BLOCK_MAX;
 
-const INDEX: u8 = 47;
 /// Tells a refusal from an answer in the first byte, and a response with errors from one without in the identifier.
 const FAILED: u8 = 0x80;
 const READ_REFUSED: u8 = READ | FAILED;
@@ -53,21 +57,31 @@ impl Display for Verdict {
 pub fn verdict(number: u8, request: &[u8], response: &[u8]) -> Verdict {
     let words = match number {
         0 => return Verdict::Yes,
-        1 => unreadable("request", request),
-        2 => unreadable("response", response),
+        1 => unreadable(Side::Request, request),
+        2 => unreadable(Side::Response, response),
         _ => found(number, request, response).unwrap_or_else(|| plain(number).to_string()),
     };
     Verdict::No(format!("check {number}, {words}"))
 }
 
-fn unreadable(which: &str, block: &[u8]) -> String {
-    let bytes = counted(block.len(), "byte");
+fn unreadable(side: Side, block: &[u8]) -> String {
+    let which = if side == Side::Request { "request" } else { "response" };
+    let words = format!("the {which} block ({}) is not readable", counted(block.len(), "byte"));
+    if is_like_a_frame(block) {
+        return format!("{words}: it looks like a frame, whose first four bytes must be left out");
+    }
+    match faults::fault(side, block) {
+        Some(fault) => format!("{words}: {fault}"),
+        None => words,
+    }
+}
+
+/// Its slot stands where a block has an identifier, which is never 0; another may be one, so that the length byte must be right too.
+fn is_like_a_frame(block: &[u8]) -> bool {
     match block {
-        [READ | WRITE, 0, INDEX, ..] => format!(
-            "the {which} block ({bytes}) is not readable: it looks like a frame, whose first four bytes must be left out"
-        ),
-        _ if block.len() > BLOCK_MAX => format!("the {which} block is not readable: {bytes} are over {BLOCK_MAX}"),
-        _ => format!("the {which} block ({bytes}) is not readable"),
+        [READ | WRITE, 0, INDEX, ..] => true,
+        [READ | WRITE, _, INDEX, length, rest @ ..] => usize::from(*length) == rest.len(),
+        _ => false,
     }
 }
 
@@ -117,30 +131,43 @@ fn plain(number: u8) -> &'static str {
     }
 }
 
-fn counted(count: usize, one: &str) -> String {
-    match count {
-        1 => format!("1 {one}"),
-        _ => format!("{count} {one}s"),
-    }
+/// The words of a text, apart by space and commas.
+pub fn words(text: &str) -> impl Iterator<Item = &str> {
+    text.split(|between: char| between.is_whitespace() || between == ',').filter(|word| !word.is_empty())
 }
 
-/// Whether a text is bytes: at least one hex digit, and nothing else but space.
+/// The digits of a word in hex, without the 0x that may stand before them; none where it is something else.
+fn digits(word: &str) -> Option<&str> {
+    let digits = word.strip_prefix("0x").or(word.strip_prefix("0X")).unwrap_or(word);
+    (!digits.is_empty() && digits.bytes().all(|digit| digit.is_ascii_hexdigit())).then_some(digits)
+}
+
+/// Whether every word of a text is in hex.
 pub fn is_hex(text: &str) -> bool {
-    let digits = |word: &str| word.bytes().all(|digit| digit.is_ascii_hexdigit());
-    !text.trim().is_empty() && text.split_whitespace().all(digits)
+    words(text).all(|word| digits(word).is_some())
 }
 
-/// The bytes of a text in hex, with space between them or none.
+/// The bytes of a text of words in hex, or the first word that is none.
 pub fn bytes(text: &str) -> Result<Vec<u8>, String> {
-    if !is_hex(text) {
-        return Err(format!("'{text}' is no hex"));
-    }
-    let words: Vec<&str> = text.split_whitespace().collect();
-    match words.iter().find(|word| word.len() % 2 == 1) {
-        Some(odd) => Err(format!("'{odd}' has an odd number of hex digits ({})", odd.len())),
-        None => read_bytes(&words),
+    let digits = |word| digits(word).ok_or_else(|| format!("'{}' is no hex", cut(word)));
+    let groups: Vec<&str> = words(text).map(digits).collect::<Result<_, _>>()?;
+    match groups.iter().find(|group| group.len() % 2 == 1) {
+        Some(odd) => Err(format!("'{}' has an odd number of hex digits ({})", cut(odd), odd.len())),
+        None => read_bytes(&groups),
     }
 }
+
+/// As much of a text as a message names of it.
+pub fn cut(text: &str) -> String {
+    const NAMED: usize = 40;
+    match text.char_indices().nth(NAMED) {
+        Some((end, _)) => format!("{}..", &text[..end]),
+        None => text.to_string(),
+    }
+}
+
+/// What some editors put before a text.
+const BYTE_ORDER_MARK: char = '\u{FEFF}';
 
 /// The frames of a text, each with its line, and the name by which they are told of.
 #[derive(Clone, Debug, PartialEq, Eq)]
@@ -153,9 +180,10 @@ impl Frames {
     /// Reads a text of at least one frame.
     pub fn read(name: String, text: &str) -> Result<Frames, String> {
         let mut frames = Vec::new();
+        let text = text.strip_prefix(BYTE_ORDER_MARK).unwrap_or(text);
         for (line, whole) in (1..).zip(text.lines()) {
-            let hex = whole.split('#').next().unwrap_or("").trim();
-            if !hex.is_empty() {
+            let hex = whole.split('#').next().unwrap_or("");
+            if words(hex).next().is_some() {
                 frames.push((line, bytes(hex).map_err(|wrong| format!("{name}:{line}: {wrong}"))?));
             }
         }
@@ -203,7 +231,7 @@ impl Log {
 
     /// Holds each answer against what was sent, by a call that checks a request block and a response block.
     pub fn check(&self, check: impl Fn(&[u8], &[u8]) -> u8) -> Findings {
-        let mut exchanges = Exchanges { check, waiting: None };
+        let mut exchanges = Exchanges { check, waiting: None, unanswered: 0 };
         let mut tally = Tally::default();
         let mut lines = Vec::new();
         for ((sent_line, sent), (line, answer)) in self.sent.frames.iter().zip(&self.answers.frames) {
@@ -216,7 +244,7 @@ impl Log {
                 Err(Wrong::Sent(words)) => lines.push(format!("{}:{sent_line}: no: {words}", self.sent.name)),
             }
         }
-        lines.push(tally.to_string());
+        lines.push(format!("{tally}, {} without a response", counted(exchanges.all_unanswered(), "write")));
         Findings { lines, good: tally.no + tally.wrong == 0 }
     }
 }
@@ -258,10 +286,10 @@ impl Display for Tally {
     }
 }
 
-/// A frame that was sent.
+/// A frame that was sent; a read wants so many bytes at most.
 enum Sent<'a> {
     Write(&'a [u8]),
-    Read,
+    Read(u8),
 }
 
 /// A frame that answers another and is no refusal.
@@ -275,6 +303,8 @@ struct Exchanges<'a, C> {
     check: C,
     /// The block of the last write that was acknowledged and not fetched.
     waiting: Option<&'a [u8]>,
+    /// How many such writes have lost their place to another.
+    unanswered: usize,
 }
 
 impl<'a, C: Fn(&[u8], &[u8]) -> u8> Exchanges<'a, C> {
@@ -283,26 +313,34 @@ impl<'a, C: Fn(&[u8], &[u8]) -> u8> Exchanges<'a, C> {
         if let [READ_REFUSED | WRITE_REFUSED, ..] = answer {
             return refusal(sent, answer).map(Some).map_err(Wrong::Answer);
         }
-        let answer = read_answer(answer).map_err(Wrong::Answer)?;
-        let sent = read_sent(sent).map_err(Wrong::Sent)?;
-        self.answered(sent, answer).map_err(Wrong::Answer)
+        let (slot, answer) = read_answer(answer).map_err(Wrong::Answer)?;
+        let (sent_slot, sent) = read_sent(sent).map_err(Wrong::Sent)?;
+        let said = self.answered(sent, answer);
+        same_slot(sent_slot, slot).and(said).map_err(Wrong::Answer)
     }
 
     fn answered(&mut self, sent: Sent<'a>, answer: Answer) -> Result<Option<Verdict>, String> {
         match (sent, answer) {
             (Sent::Write(block), Answer::Acknowledgement(length)) => {
-                self.waiting = Some(block);
+                self.unanswered += usize::from(self.waiting.replace(block).is_some());
                 acknowledged(block, length).map(|()| None)
             }
-            (Sent::Read, Answer::Acknowledgement(_)) => {
+            (Sent::Read(_), Answer::Acknowledgement(_)) => {
                 Err("an acknowledgement answers a write, and a read was sent".to_string())
             }
             (Sent::Write(request), Answer::Response(response)) => Ok(Some(self.verdict(request, response))),
-            (Sent::Read, Answer::Response(response)) => match self.waiting.take() {
-                Some(request) => Ok(Some(self.verdict(request, response))),
-                None => Err("a response answers a write, and none waits for its response".to_string()),
+            (Sent::Read(wanted), Answer::Response(response)) => match self.waiting.take() {
+                Some(request) => wanted_so_many(wanted, response).map(|()| Some(self.verdict(request, response))),
+                None => {
+                    Err("a response answers a write, and none waits for its response; a log is of one farm".to_string())
+                }
             },
         }
+    }
+
+    /// How many writes were acknowledged and got no response.
+    fn all_unanswered(&self) -> usize {
+        self.unanswered + usize::from(self.waiting.is_some())
     }
 
     fn verdict(&self, request: &[u8], response: &[u8]) -> Verdict {
@@ -322,33 +360,56 @@ fn refusal(sent: &[u8], answer: &[u8]) -> Result<Verdict, String> {
 fn acknowledged(block: &[u8], length: u8) -> Result<(), String> {
     match block.len() == usize::from(length) {
         true => Ok(()),
-        false => Err(format!("the acknowledgement's length byte is {length:02X}, the write's {:02X}", block.len())),
+        false => Err(format!(
+            "the acknowledgement's length byte says {}, the write's {}",
+            counted(length.into(), "byte"),
+            block.len()
+        )),
     }
 }
 
-fn read_sent(frame: &[u8]) -> Result<Sent<'_>, String> {
-    match parted(frame, "a frame that is sent begins with 5E or 5F")? {
-        (WRITE, length, block) => whole(length, block).map(Sent::Write),
-        (_, _, []) => Ok(Sent::Read),
-        _ => Err(format!("a read has 4 bytes, and this {}", frame.len())),
+fn wanted_so_many(wanted: u8, response: &[u8]) -> Result<(), String> {
+    match response.len() <= usize::from(wanted) {
+        true => Ok(()),
+        false => {
+            Err(format!("the response has {}, and the read wanted at most {wanted}", counted(response.len(), "byte")))
+        }
     }
 }
 
-fn read_answer(frame: &[u8]) -> Result<Answer<'_>, String> {
-    match parted(frame, "an answer begins with 5E, 5F, DE or DF")? {
-        (READ, length, block) => whole(length, block).map(Answer::Response),
-        (_, length, []) => Ok(Answer::Acknowledgement(length)),
-        _ => Err(format!("an acknowledgement has 4 bytes, and this {}", frame.len())),
+fn same_slot(sent: u8, answered: u8) -> Result<(), String> {
+    match sent == answered {
+        true => Ok(()),
+        false => Err(format!("the answer's slot is {answered:02X}, and {sent:02X} was sent")),
     }
 }
 
-/// The function byte, 5E or 5F, the length byte and what follows it, in a frame of slot 0 and index 47.
-fn parted<'a>(frame: &'a [u8], beginning: &str) -> Result<(u8, u8, &'a [u8]), String> {
+/// The slot of a frame that was sent, and the frame.
+fn read_sent(frame: &[u8]) -> Result<(u8, Sent<'_>), String> {
+    let (slot, sent) = match parted(frame, "a frame that is sent begins with 5E or 5F")? {
+        (WRITE, slot, length, block) => (slot, Sent::Write(whole(length, block)?)),
+        (_, slot, wanted, []) => (slot, Sent::Read(wanted)),
+        _ => return Err(format!("a read has 4 bytes, and this {}", frame.len())),
+    };
+    Ok((slot, sent))
+}
+
+/// The slot of an answer, and the answer.
+fn read_answer(frame: &[u8]) -> Result<(u8, Answer<'_>), String> {
+    let (slot, answer) = match parted(frame, "an answer begins with 5E, 5F, DE or DF")? {
+        (READ, slot, length, block) => (slot, Answer::Response(whole(length, block)?)),
+        (_, slot, length, []) => (slot, Answer::Acknowledgement(length)),
+        _ => return Err(format!("an acknowledgement has 4 bytes, and this {}", frame.len())),
+    };
+    Ok((slot, answer))
+}
+
+/// The function byte, 5E or 5F, the slot, the length byte and what follows it, in a frame of index 47.
+fn parted<'a>(frame: &'a [u8], beginning: &str) -> Result<(u8, u8, u8, &'a [u8]), String> {
     match frame {
         [] | [_] | [_, _] | [_, _, _] => Err(format!("a frame has at least 4 bytes, and this {}", frame.len())),
-        [function @ (READ | WRITE), 0, INDEX, length, rest @ ..] => Ok((*function, *length, rest)),
-        [READ | WRITE, 0, index, ..] => Err(format!("the index is {index:02X}, and not 2F")),
-        [READ | WRITE, slot, ..] => Err(format!("the slot is {slot:02X}, and not 00")),
+        [function @ (READ | WRITE), slot, INDEX, length, rest @ ..] => Ok((*function, *slot, *length, rest)),
+        [READ | WRITE, _, index, ..] => Err(format!("the index is {index:02X}, and not 2F")),
         [first, ..] => Err(format!("{beginning}, and this with {first:02X}")),
     }
 }
@@ -384,8 +445,10 @@ mod tests {
     fn words_for_every_check() {
         let asked = |response: &str| said(ASKED, response);
         assert_eq!(asked(VALUES), "yes");
-        assert_eq!(said("07", VALUES), "no: check 1, the request block (1 byte) is not readable");
-        assert_eq!(asked("07 01 01 02 42 02"), "no: check 2, the response block (6 bytes) is not readable");
+        let short = "the request block (1 byte) is not readable: it is under 4 bytes";
+        assert_eq!(said("07", VALUES), format!("no: check 1, {short}"));
+        let cut = "the response block (6 bytes) is not readable: it is cut where bytes 7 to 10 should be values";
+        assert_eq!(asked("07 01 01 02 42 02"), format!("no: check 2, {cut}"));
         assert_eq!(asked("06 02 01 02"), "no: check 3, the response's reference is 06, the request's 07");
         assert_eq!(asked("07 02 10 02"), "no: check 4, the response's axis is 16, the request's 1");
         assert_eq!(asked("07 02 01 03"), "no: check 5, the response's number of parameters is 3, the request's 2");
@@ -409,13 +472,17 @@ mod tests {
 
     #[test]
     fn blocks_that_are_too_long_or_look_like_frames() {
-        let long = "00".repeat(241);
-        assert_eq!(said(&long, VALUES), "no: check 1, the request block is not readable: 241 bytes are over 240");
-        assert_eq!(said(ASKED, &long), "no: check 2, the response block is not readable: 241 bytes are over 240");
-        assert_eq!(said(&long[2..], VALUES), "no: check 1, the request block (240 bytes) is not readable");
+        let (long, over) = ("00".repeat(241), "block (241 bytes) is not readable: it is over 240 bytes");
+        assert_eq!(said(&long, VALUES), format!("no: check 1, the request {over}"));
+        assert_eq!(said(ASKED, &long), format!("no: check 2, the response {over}"));
         let frame = "is not readable: it looks like a frame, whose first four bytes must be left out";
         assert_eq!(said(WRITE_OF_MARKS, RESPONSE), format!("no: check 1, the request block (20 bytes) {frame}"));
         assert_eq!(said(ASKED, RESPONSE), format!("no: check 2, the response block (12 bytes) {frame}"));
+        assert_eq!(said(ASKED, "5E 00 2F 09"), format!("no: check 2, the response block (4 bytes) {frame}"));
+        let other_slot = RESPONSE.replacen("00", "01", 1);
+        assert_eq!(said(ASKED, &other_slot), format!("no: check 2, the response block (12 bytes) {frame}"));
+        let axis_47 = "is not readable: it is cut where byte 5 should be a format";
+        assert_eq!(said(ASKED, "5E 01 2F 02"), format!("no: check 2, the response block (4 bytes) {axis_47}"));
     }
 
     #[test]
@@ -434,18 +501,30 @@ mod tests {
             assert_eq!(verdict(number, &good.0, &good.1), plain);
             assert_eq!(verdict(number, &[], &[]), plain);
         }
+        let unreadable = |number, words: &str| Verdict::No(format!("check {number}, the {words} is not readable"));
+        assert_eq!(verdict(1, &good.0, &good.1), unreadable(1, "request block (16 bytes)"));
+        assert_eq!(verdict(2, &good.0, &good.1), unreadable(2, "response block (14 bytes)"));
         let failed = bytes("07 81 01 02 44 01 00 00 44 01 00 00").unwrap();
         assert_eq!(verdict(6, &good.0, &failed), Verdict::No(format!("check 6, {}", words[3])));
     }
 
     #[test]
     fn hex_and_what_is_none() {
-        assert_eq!(bytes("5f00 2F\t0a"), Ok(vec![0x5F, 0, 0x2F, 0x0A]));
-        assert_eq!(bytes("01 234"), Err("'234' has an odd number of hex digits (3)".to_string()));
-        assert_eq!(bytes("0 1"), Err("'0' has an odd number of hex digits (1)".to_string()));
-        for text in ["", " ", "-", "0x01", "01,02", "2*01", "log", "\u{0661}"] {
-            assert_eq!((is_hex(text), bytes(text)), (false, Err(format!("'{text}' is no hex"))));
+        for text in ["5f00 2F\t0a", "0x5F 0x00 0X2f 0x0A", "0x5F,0x00,0x2F,0x0A", "5F, 00 ,2F,,0A,", " 0x5F002F0A "] {
+            assert_eq!((is_hex(text), bytes(text)), (true, Ok(vec![0x5F, 0, 0x2F, 0x0A])), "{text}");
         }
+        let odd = |digits: &str, count| Err(format!("'{digits}' has an odd number of hex digits ({count})"));
+        assert_eq!(bytes("01 234"), odd("234", 3));
+        assert_eq!(bytes("0 1"), odd("0", 1));
+        assert_eq!(bytes("0x5, 0x00"), odd("5", 1));
+        assert_eq!(bytes(&"0".repeat(41)), odd(&format!("{}..", "0".repeat(40)), 41));
+        for word in ["-", "0x", "0x0x01", "2*01", "01;", "log", "\u{0661}"] {
+            for text in [word.to_string(), format!("07 {word} gh"), format!("0,{word},-")] {
+                assert_eq!((is_hex(&text), bytes(&text)), (false, Err(format!("'{word}' is no hex"))));
+            }
+        }
+        assert_eq!(bytes(&"\u{E9}".repeat(41)), Err(format!("'{}..' is no hex", "\u{E9}".repeat(40))));
+        assert_eq!(bytes(&"\u{E9}".repeat(40)), Err(format!("'{}' is no hex", "\u{E9}".repeat(40))));
     }
 
     fn frames(name: &str, text: &str) -> Result<Frames, String> {
@@ -457,6 +536,10 @@ mod tests {
         let text = "# a log\r\n\n5F002F00  # a write\n \n  5E 00 2F F0\n";
         let read = frames("log", text).unwrap();
         assert_eq!(read.frames, [(3, vec![0x5F, 0, 0x2F, 0]), (5, vec![0x5E, 0, 0x2F, 0xF0])]);
+        let marked = frames("log", "\u{FEFF}0x5F,0x00\n , \n5E # a \u{FEFF}\n").unwrap();
+        assert_eq!(marked.frames, [(1, vec![0x5F, 0]), (3, vec![0x5E])]);
+        assert_eq!(frames("log", "5F\n\u{FEFF}5E\n"), Err("log:2: '\u{FEFF}5E' is no hex".to_string()));
+        assert_eq!(frames("log", "5E 00 2F F0, a read\n"), Err("log:1: 'read' is no hex".to_string()));
         assert_eq!(frames("log", "5F\nfetch\n"), Err("log:2: 'fetch' is no hex".to_string()));
         assert_eq!(frames("log", "\n5F0\n"), Err("log:2: '5F0' has an odd number of hex digits (3)".to_string()));
         assert_eq!(frames("log", "# 5F\n"), Err("log: there is no frame in it".to_string()));
@@ -487,7 +570,7 @@ mod tests {
             "back:3: refused with code B6",
             "back:4: yes",
             "back:5: no: check 3, the response's reference is 08, the request's 07",
-            "3 responses checked: 2 yes, 1 no; 1 refused, 0 wrong frames",
+            "3 responses checked: 2 yes, 1 no; 1 refused, 0 wrong frames, 0 writes without a response",
         ];
         assert_eq!((found.lines, found.good), (lines.map(String::from).to_vec(), false));
     }
@@ -515,8 +598,8 @@ mod tests {
             "back:4: yes",
             "back:5: yes",
             "back:8: yes",
-            "back:9: no: a response answers a write, and none waits for its response",
-            "3 responses checked: 3 yes, 0 no; 2 refused, 1 wrong frame",
+            "back:9: no: a response answers a write, and none waits for its response; a log is of one farm",
+            "3 responses checked: 3 yes, 0 no; 2 refused, 1 wrong frame, 1 write without a response",
         ];
         assert_eq!((found.lines, found.good), (lines.map(String::from).to_vec(), false));
     }
@@ -525,14 +608,73 @@ mod tests {
     fn nothing_but_refusals_and_acknowledgements_is_no_no() {
         let found =
             checked(&[(WRITE_OF_MARKS, ACKNOWLEDGEMENT), ("5F 01 2F 00", "DF 80 B2 00"), (FETCH, "DE 80 B5 00")]);
-        let last = "0 responses checked: 0 yes, 0 no; 2 refused, 0 wrong frames".to_string();
+        let last =
+            "0 responses checked: 0 yes, 0 no; 2 refused, 0 wrong frames, 1 write without a response".to_string();
         assert_eq!((found.lines.last(), found.good), (Some(&last), true));
     }
 
-    fn wrong(sent: &str, answer: &str, words: &str) {
+    #[test]
+    fn writes_without_a_response() {
+        let written = (WRITE_OF_MARKS, ACKNOWLEDGEMENT);
+        let unanswered = |exchanges: &[(&str, &str)]| {
+            let found = checked(exchanges);
+            found.lines.last().unwrap().rsplit(", ").next().unwrap().to_string()
+        };
+        assert_eq!(unanswered(&[written, (FETCH, RESPONSE)]), "0 writes without a response");
+        assert_eq!(unanswered(&[written, (FETCH, RESPONSE), written]), "1 write without a response");
+        assert_eq!(unanswered(&[written, written, (FETCH, RESPONSE)]), "1 write without a response");
+        assert_eq!(unanswered(&[written, written, (FETCH, "DE 80 B5 00")]), "2 writes without a response");
+        assert_eq!(unanswered(&[written, (WRITE_OF_MARKS, RESPONSE)]), "1 write without a response");
+        assert_eq!(unanswered(&[(WRITE_OF_MARKS, "DF 80 B5 00")]), "0 writes without a response");
+    }
+
+    #[test]
+    fn a_conversation_of_another_slot() {
+        // Document 002's, by a write and a fetch and by a write beside its response; then answers of other slots.
+        let (write, acknowledgement) = ("5F 01 2F 0A 01 01 01 01 10 01 00 10 00 48", "5F 01 2F 0A");
+        let (fetch, response) = ("5E 01 2F F0", "5E 01 2F 08 01 01 01 01 42 01 05 64");
+        let found = checked(&[
+            (write, acknowledgement),
+            (fetch, response),
+            (write, response),
+            (write, "5F 00 2F 0A"),
+            (fetch, "5E 02 2F 08 01 01 01 01 42 01 05 64"),
+            (fetch, response),
+        ]);
+        let lines = [
+            "back:2: yes",
+            "back:3: yes",
+            "back:4: no: the answer's slot is 00, and 01 was sent",
+            "back:5: no: the answer's slot is 02, and 01 was sent",
+            "back:6: no: a response answers a write, and none waits for its response; a log is of one farm",
+            "2 responses checked: 2 yes, 0 no; 0 refused, 3 wrong frames, 0 writes without a response",
+        ];
+        assert_eq!((found.lines, found.good), (lines.map(String::from).to_vec(), false));
+    }
+
+    #[test]
+    fn a_response_that_is_longer_than_wanted() {
+        let read = |wanted: &str| {
+            let found = checked(&[(WRITE_OF_MARKS, ACKNOWLEDGEMENT), (&format!("5E 00 2F {wanted}"), RESPONSE)]);
+            (found.lines, found.good)
+        };
+        let wrong = [
+            "back:2: no: the response has 8 bytes, and the read wanted at most 7",
+            "0 responses checked: 0 yes, 0 no; 0 refused, 1 wrong frame, 0 writes without a response",
+        ];
+        assert_eq!(read("07"), (wrong.map(String::from).to_vec(), false));
+        assert_eq!((read("08").0[0].as_str(), read("08").1), ("back:2: yes", true));
+    }
+
+    /// A wrong frame, after which so many writes have no response.
+    fn wrong_after(sent: &str, answer: &str, words: &str, writes: &str) {
         let found = checked(&[(sent, answer)]);
-        let last = "0 responses checked: 0 yes, 0 no; 0 refused, 1 wrong frame";
-        assert_eq!((found.lines, found.good), (vec![words.to_string(), last.to_string()], false));
+        let last = format!("0 responses checked: 0 yes, 0 no; 0 refused, 1 wrong frame, {writes} without a response");
+        assert_eq!((found.lines, found.good), (vec![words.to_string(), last], false));
+    }
+
+    fn wrong(sent: &str, answer: &str, words: &str) {
+        wrong_after(sent, answer, words, "0 writes");
     }
 
     #[test]
@@ -540,13 +682,15 @@ mod tests {
         wrong(WRITE_OF_MARKS, "5E 00 2F", "back:1: no: a frame has at least 4 bytes, and this 3");
         let beginning = "an answer begins with 5E, 5F, DE or DF, and this with 07";
         wrong(WRITE_OF_MARKS, "07 82 01 01 44 01 00 02", &format!("back:1: no: {beginning}"));
-        wrong(WRITE_OF_MARKS, "5E 01 2E 00", "back:1: no: the slot is 01, and not 00");
+        wrong(WRITE_OF_MARKS, "5E 01 2F 00", "back:1: no: the answer's slot is 01, and 00 was sent");
         wrong(WRITE_OF_MARKS, "5F 00 2E 10", "back:1: no: the index is 2E, and not 2F");
         wrong(WRITE_OF_MARKS, "5E 00 2F 05 07 02 01 01", "back:1: no: the length byte says 5 bytes, and 4 follow");
         wrong(WRITE_OF_MARKS, "5F 00 2F 10 07 02", "back:1: no: an acknowledgement has 4 bytes, and this 6");
-        wrong(WRITE_OF_MARKS, "5F 00 2F 0E", "back:1: no: the acknowledgement's length byte is 0E, the write's 10");
+        let length = "back:1: no: the acknowledgement's length byte says 14 bytes, the write's 16";
+        wrong_after(WRITE_OF_MARKS, "5F 00 2F 0E", length, "1 write");
         wrong(FETCH, ACKNOWLEDGEMENT, "back:1: no: an acknowledgement answers a write, and a read was sent");
-        wrong(FETCH, RESPONSE, "back:1: no: a response answers a write, and none waits for its response");
+        let none_waits = "a response answers a write, and none waits for its response; a log is of one farm";
+        wrong(FETCH, RESPONSE, &format!("back:1: no: {none_waits}"));
     }
 
     #[test]
@@ -564,7 +708,7 @@ mod tests {
         wrong("5F", ACKNOWLEDGEMENT, "sent:2: no: a frame has at least 4 bytes, and this 1");
         let beginning = "a frame that is sent begins with 5E or 5F, and this with DE";
         wrong("DE 80 B5 00", RESPONSE, &format!("sent:2: no: {beginning}"));
-        wrong("5E 02 2F F0", RESPONSE, "sent:2: no: the slot is 02, and not 00");
+        wrong("5E 02 2E F0", RESPONSE, "sent:2: no: the index is 2E, and not 2F");
         wrong("5F 00 30 00", "5F 00 2F 00", "sent:2: no: the index is 30, and not 2F");
         wrong("5F 00 2F 01", "5F 00 2F 01", "sent:2: no: the length byte says 1 byte, and 0 follow");
         wrong(RESPONSE, RESPONSE, "sent:2: no: a read has 4 bytes, and this 12");

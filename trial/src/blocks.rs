@@ -2,7 +2,7 @@
 
 use crate::layout::{Block, Values, ADDRESS, BYTE_FORMATS, HEADER};
 use crate::random::Random;
-use crate::sending::{Sending, READ};
+use crate::sending::{Sending, INDEX, READ, WRITE};
 use twin::{Address, Parameter, Type, BLOCK_MAX};
 
 /// What a frame was made to be; damage may have changed it since.
@@ -71,7 +71,7 @@ fn read(random: &mut Random, waiting: usize) -> Vec<u8> {
         10 => waiting.wrapping_add(1) as u8,
         _ => random.byte(),
     };
-    vec![READ, 0, 47, wanted]
+    vec![READ, 0, INDEX, wanted]
 }
 
 fn write(random: &mut Random, axis: u8) -> (Kind, Vec<u8>) {
@@ -108,11 +108,18 @@ pub fn block(random: &mut Random, axis: u8) -> (Kind, Block) {
     (kind, block)
 }
 
-/// The write frame of a block, with its true length as far as a byte holds it.
+/// The write frame of a request block, with its true length as far as a byte holds it.
 pub fn framed(block: &[u8]) -> Vec<u8> {
-    let mut frame = vec![0x5F, 0, 47, block.len() as u8];
-    frame.extend(block);
-    frame
+    carried(WRITE, block)
+}
+
+/// The reply that brings a response block, with its length told in the same way.
+pub fn replied(block: &[u8]) -> Vec<u8> {
+    carried(READ, block)
+}
+
+fn carried(function: u8, block: &[u8]) -> Vec<u8> {
+    [&[function, 0, INDEX, block.len() as u8], block].concat()
 }
 
 fn reference(random: &mut Random) -> u8 {
@@ -298,7 +305,7 @@ pub fn free(random: &mut Random, header: fn(&mut Random, usize) -> [u8; HEADER])
 }
 
 fn frame_header(random: &mut Random, length: usize) -> [u8; HEADER] {
-    [random.pick(&[0x5E, 0x5F, 0x5F, 0x5D]), 0, 47, length.wrapping_sub(HEADER) as u8]
+    [random.pick(&[READ, WRITE, WRITE, 0x5D]), 0, INDEX, length.wrapping_sub(HEADER) as u8]
 }
 
 /// One or two of the things that go wrong with a frame.
@@ -312,25 +319,25 @@ fn damage(random: &mut Random, frame: &mut Vec<u8>) {
 }
 
 /// One of the things that go wrong with bytes, often near their front.
-pub fn damage_bytes(random: &mut Random, frame: &mut Vec<u8>) {
-    let length = frame.len();
+pub fn damage_bytes(random: &mut Random, bytes: &mut Vec<u8>) {
+    let length = bytes.len();
     let place = random.below(length.max(1));
     let front = random.below(12);
     match random.below(10) {
-        0 | 1 if length > 0 => frame[place] ^= 1 << random.below(8),
-        2 if length > 0 => frame[place] = random.byte(),
+        0 | 1 if length > 0 => bytes[place] ^= 1 << random.below(8),
+        2 if length > 0 => bytes[place] = random.byte(),
         3 | 4 if front < length => {
-            frame[front] = random.pick(&[0, 1, 2, 3, 39, 40, 46, 47, 48, 0x5E, 0x5F, 0x81, 0x82, 0x90, 240, 241, 255])
+            bytes[front] = random.pick(&[0, 1, 2, 3, 39, 40, 46, 47, 48, 0x5E, 0x5F, 0x81, 0x82, 0x90, 240, 241, 255])
         }
-        5 => frame.truncate(place),
-        6 => frame.truncate(length.saturating_sub(1 + random.below(3))),
-        7 => frame.extend((0..1 + random.below(8)).map(|_| 0)),
-        8 => frame.insert(place, random.byte()),
-        9 if length > 0 => drop(frame.remove(place)),
+        5 => bytes.truncate(place),
+        6 => bytes.truncate(length.saturating_sub(1 + random.below(3))),
+        7 => bytes.extend((0..1 + random.below(8)).map(|_| 0)),
+        8 => bytes.insert(place, random.byte()),
+        9 if length > 0 => drop(bytes.remove(place)),
         _ if length > 3 => {
-            frame[3] = random.pick(&[frame[3].wrapping_add(1), frame[3].wrapping_sub(1), 0, 240, 241, 255])
+            bytes[3] = random.pick(&[bytes[3].wrapping_add(1), bytes[3].wrapping_sub(1), 0, 240, 241, 255])
         }
-        _ => frame.push(random.byte()),
+        _ => bytes.push(random.byte()),
     }
 }
 

@@ -375,7 +375,7 @@ impl Checks {
             6 => self.mismatched[place(identifiers(check), &MISMATCHED)] += 1,
             _ => {}
         }
-        // Others are not read here: the twin leaves a response unread whose request is none.
+        // No others: the twin leaves a response unread whose request is none, and to read it here would count as reached.
         if let 0 | 7 = number {
             self.count_read(check, number);
         }

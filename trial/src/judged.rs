@@ -4,14 +4,14 @@
 //! said at the top of `bin/wireshark.rs`. So some numbers are left that a checker may give, and one alone where all that
 //! decides is shown.
 
-use crate::blocks::framed;
+use crate::blocks::{framed, replied};
 use crate::counts::Counts;
 use crate::dissected::{self, Field};
 use crate::dissected::{DO, ELEMENTS, ERROR, FAULT, FORMAT, LEFT_OVER, PARAMETERS, RECORD_LENGTH, REFERENCE};
 use crate::dissected::{REQUEST_ID, RESPONSE_ID, SINGLE_ONLY, VALUES};
-use crate::layout::{ADDRESS, BYTE_FORMATS, HEADER};
+use crate::layout::{Side, ADDRESS, BYTE_FORMATS, HEADER};
 use crate::packets::{Answered, Capture};
-use crate::sending::{Sending, READ};
+use crate::sending::Sending;
 use std::fs::File;
 use std::io::{self, BufWriter};
 use std::path::Path;
@@ -43,17 +43,9 @@ impl Pair {
 
     /// The pair as a write that was done and the fetch of its response.
     fn exchanges(&self, record: u64) -> Vec<Answered> {
-        let reply = [&[READ, 0, 47, self.response.len() as u8], self.response.as_slice()].concat();
-        let write = framed(&self.request);
-        Answered { record, farm: 1, frame: write, number: 0, stored: 0, reply }.by(Sending::Merged)
+        let (frame, reply) = (framed(&self.request), replied(&self.response));
+        Answered { record, farm: 1, frame, number: 0, stored: 0, reply }.by(Sending::Merged)
     }
-}
-
-/// Whose block it is.
-#[derive(Clone, Copy, PartialEq, Eq)]
-enum Side {
-    Request,
-    Response,
 }
 
 /// How a check comes out by what Wireshark shows.

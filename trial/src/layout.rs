@@ -9,6 +9,15 @@ pub const ADDRESS: usize = 6;
 /// Formats of one byte. A fill byte, one zero that the count leaves out, follows an odd number of their values.
 pub const BYTE_FORMATS: [u8; 3] = [0x41, 2, 5];
 
+/// Whose block it is.
+#[derive(Clone, Copy, Debug, PartialEq, Eq)]
+pub enum Side {
+    /// That of who asks.
+    Request,
+    /// That of who answers.
+    Response,
+}
+
 /// A block of either kind. Nothing keeps it readable, since tests want others too.
 #[derive(Clone, Debug, PartialEq, Eq)]
 pub struct Block {

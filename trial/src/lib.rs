@@ -14,6 +14,7 @@ pub mod checks;
 pub mod counts;
 pub mod dissected;
 pub mod face;
+pub mod faults;
 pub mod fills;
 pub mod journal;
 pub mod judged;

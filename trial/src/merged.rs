@@ -4,7 +4,7 @@ use crate::counts::{named, unmet, Counts, Worked};
 use crate::fills::is_misfilled;
 use crate::layout::{Block, HEADER};
 use crate::meaning::{response_of, STATION};
-use crate::sending::READ;
+use crate::sending::{INDEX, READ};
 use std::fmt::{self, Display, Formatter};
 use twin::{Axis, Framed, AXES, BLOCK_MAX};
 
@@ -146,8 +146,8 @@ impl Merged {
 /// Why a frame is none that the merged call takes.
 fn untaken(frame: &[u8]) -> usize {
     match frame {
-        [READ, 0, 47, _] => 3,
-        [READ, 0, 47, _, ..] => 6,
+        [READ, 0, INDEX, _] => 3,
+        [READ, 0, INDEX, _, ..] => 6,
         [READ, 0, _, _, ..] => 5,
         [READ, _, _, _, ..] => 4,
         [READ, ..] => 2,

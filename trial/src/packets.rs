@@ -34,7 +34,7 @@
 //! millisecond later, the write of a merged call a quarter, and then its fetch follows. n is also the DCE/RPC sequence
 //! number, and its low 16 bits are the SeqNumber, in all packets of the record.
 
-use crate::sending::{Sending, FETCH, READ, WRITE};
+use crate::sending::{Sending, FETCH, INDEX, READ, WRITE};
 use std::io::{self, Write};
 
 /// What a farm sent and what it was answered.
@@ -71,7 +71,6 @@ impl Answered {
     }
 }
 
-const INDEX: u8 = 47;
 /// PROFIdrive's parameter access, and the index of frames that have none.
 const PARAMETER_ACCESS: u16 = 0xB02F;
 const NO_INDEX: u16 = 0x7FFF;

@@ -8,8 +8,10 @@ use twin::Station;
 pub const READ: u8 = 0x5E;
 /// Function byte of a write.
 pub const WRITE: u8 = 0x5F;
+/// Index of the parameter blocks.
+pub const INDEX: u8 = 47;
 /// The read that fetches any response.
-pub const FETCH: [u8; 4] = [READ, 0, 47, 240];
+pub const FETCH: [u8; 4] = [READ, 0, INDEX, 240];
 
 /// How a frame is sent.
 #[derive(Clone, Copy, Debug, PartialEq, Eq)]

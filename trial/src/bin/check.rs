@@ -2,8 +2,8 @@
 //!
 //! Usage: `check REQUEST RESPONSE [FOLDER]`. Two arguments in hex are blocks; of two others each is the name of a file of frames,
 //! or `-` for standard input. What such files hold is said in `answers.rs`. A name is seen from the folder, where one is given,
-//! and told as it was typed. Exit status: 0, nothing was a no; 1, something was; 2, nothing was checked, or what was found could
-//! not be written.
+//! and told as it was typed; one in hex is refused where there is such a file. Exit status: 0, nothing was a no; 1, something was;
+//! 2, nothing was checked, or what was found could not be written.
 
 #![forbid(unsafe_code)]
 #![deny(warnings)]
@@ -38,11 +38,11 @@ fn main() -> ExitCode {
 
 /// Whether nothing was a no.
 fn run(request: &OsStr, response: &OsStr, folder: &Path) -> Result<bool, String> {
-    let findings = match (hex(request)?, hex(response)?) {
+    let findings = match (block(request, folder)?, block(response, folder)?) {
         (Some(request), Some(response)) => blocks(&request, &response),
         (None, None) => log(request, response, folder)?,
-        (Some(_), None) => return Err(unlike(response)),
-        (None, Some(_)) => return Err(unlike(request)),
+        (Some(_), None) => return Err(unlike(request, response)),
+        (None, Some(_)) => return Err(unlike(response, request)),
     };
     let mut lines = findings.lines.join("\n");
     lines.push('\n');
@@ -50,18 +50,24 @@ fn run(request: &OsStr, response: &OsStr, folder: &Path) -> Result<bool, String>
     Ok(findings.good)
 }
 
-/// The bytes of an argument in hex, none where it is something else.
-fn hex(argument: &OsStr) -> Result<Option<Vec<u8>>, String> {
-    match argument.to_str() {
-        Some(text) if text.trim().is_empty() => Err("an argument is empty".to_string()),
-        Some(text) if answers::is_hex(text) => answers::bytes(text).map(Some),
+/// The block that an argument is in hex, none where it is the name of a file. What has spaces or commas and is no file was meant for
+/// a block.
+fn block(typed: &OsStr, folder: &Path) -> Result<Option<Vec<u8>>, String> {
+    let Some(text) = typed.to_str() else { return Ok(None) };
+    let is_file = fs::metadata(folder.join(typed)).is_ok_and(|found| !found.is_dir());
+    match answers::words(text).next() {
+        None => Err("an argument is empty".to_string()),
+        _ if answers::is_hex(text) && is_file => Err(format!(
+            "'{text}' is a block in hex and also a file: type './{text}' for the file, ' {text}' for the block"
+        )),
+        Some(first) if answers::is_hex(text) || (first != text && !is_file) => answers::bytes(text).map(Some),
         _ => Ok(None),
     }
 }
 
-fn unlike(argument: &OsStr) -> String {
-    let typed = Path::new(argument).display();
-    format!("'{typed}' is no block in hex, and the other argument is one: they are two blocks or two files")
+fn unlike(block: &OsStr, file: &OsStr) -> String {
+    let (block, file) = (answers::cut(&block.to_string_lossy()), Path::new(file).display());
+    format!("'{block}' was taken for a block in hex, and '{file}' for a file: they are two blocks or two files")
 }
 
 fn blocks(request: &[u8], response: &[u8]) -> Findings {

@@ -66,7 +66,7 @@ use trial::judged::{self, altered, Pair};
 use trial::layout::{Block, Values, BYTE_FORMATS};
 use trial::packets::{Answered, Capture};
 use trial::random::Random;
-use trial::sending::{Sending, FETCH, READ, WRITE};
+use trial::sending::{Sending, FETCH, INDEX, READ, WRITE};
 use trial::{blocks, parts, words};
 use twin::{Address, Station, AXES, REPLY_MIN};
 
@@ -144,10 +144,12 @@ impl Answer {
     /// The answer that stands in a reply.
     fn of(number: u8, stored: u16, reply: &[u8]) -> Answer {
         match reply {
-            [READ, 0, 47, length, block @ ..] if number == 0 => {
+            [READ, 0, INDEX, length, block @ ..] if number == 0 => {
                 Answer { number, stored, length: u32::from(*length), block: Block::of_response(block) }
             }
-            [WRITE, 0, 47, length] if number == 0 => Answer { number, stored, length: u32::from(*length), block: None },
+            [WRITE, 0, INDEX, length] if number == 0 => {
+                Answer { number, stored, length: u32::from(*length), block: None }
+            }
             _ => Answer { number, stored, length: 0, block: None },
         }
     }
@@ -188,7 +190,7 @@ impl Meaning {
     /// A frame that comes as bytes.
     fn of_bytes((answered, answer): (Answered, Answer)) -> Meaning {
         let block = match answered.frame.as_slice() {
-            [WRITE, _, 47, length, block @ ..] if usize::from(*length) == block.len() => Block::of_request(block),
+            [WRITE, _, INDEX, length, block @ ..] if usize::from(*length) == block.len() => Block::of_request(block),
             _ => None,
         };
         Meaning { answered, block, answer }
@@ -463,7 +465,7 @@ fn planted(path: PathBuf) -> Result<bool, String> {
         let bytes = block.bytes();
         for at in 0..seen_in_request(block).bytes {
             let frame = blocks::framed(&altered(&bytes, at));
-            let reply = vec![WRITE, 0, 47, bytes.len() as u8];
+            let reply = vec![WRITE, 0, INDEX, bytes.len() as u8];
             let answer = Answer::of(0, 0, &reply);
             let answered = Answered { record: 0, farm: 1, frame, number: 0, stored: 0, reply };
             bench.add(&format!("byte {at} altered"), vec![Meaning { answered, block: Some(block.clone()), answer }])?;
@@ -495,7 +497,7 @@ fn found_all(compared: Vec<(Meant, Vec<String>)>) -> bool {
 
 /// A fetch that is answered with these bytes, where this block was meant.
 fn fetched(block: &Block, bytes: &[u8]) -> Meaning {
-    let reply = [&[READ, 0, 47, bytes.len() as u8], bytes].concat();
+    let reply = blocks::replied(bytes);
     let answer = Answer { number: 0, stored: 0, length: bytes.len() as u32, block: Some(block.clone()) };
     let answered = Answered { record: 0, farm: 1, frame: FETCH.to_vec(), number: 0, stored: 0, reply };
     Meaning { answered, block: None, answer }
@@ -601,7 +603,7 @@ fn any_byte(byte: u8) -> Block {
 fn header_meant(answered: &Answered, from_farm: bool, status: &[Field], length: u32, stored: &[Field]) -> Vec<Field> {
     let farm = u32::from(answered.farm);
     let (slot, index) = match answered.frame.as_slice() {
-        [READ | WRITE, slot, 47, _, ..] => (*slot, 0xB02F),
+        [READ | WRITE, slot, INDEX, _, ..] => (*slot, 0xB02F),
         [READ | WRITE, slot, index, _, ..] => (*slot, u32::from(*index)),
         _ => (0, 0x7FFF),
     };
@@ -638,7 +640,7 @@ fn reads(frame: &[u8]) -> bool {
 fn request_meant(what: &str, answered: &Answered, block: Option<&Block>) -> Meant {
     let (length, meant) = match answered.frame.as_slice() {
         [READ, _, _, length, data @ ..] => (usize::from(*length), data.is_empty()),
-        [WRITE, _, 47, length, ..] => (usize::from(*length), block.is_some()),
+        [WRITE, _, INDEX, length, ..] => (usize::from(*length), block.is_some()),
         [WRITE, _, _, length, data @ ..] => (usize::from(*length), usize::from(*length) == data.len()),
         frame => (frame.len(), true),
     };
