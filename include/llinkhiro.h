@@ -20,8 +20,8 @@
  * NUMBERS
  *
  * Every call on a station answers a number: 0 where it was done, else why it was refused. The tests are made in the order of
- * the numbers, so that the first reason is the one given. After a refusal the whole station is as it was before the call, and no element
- * was stored. A response that waits is not lost by a refusal.
+ * the numbers, so that the first reason is the one given. After a refusal the whole station is as it was before the call, and
+ * no element was stored. A response that waits is not lost by a refusal.
  *
  *    1  farm or axis is not 1 to 16
  *    2  the station's memory is not of llinkhiro_size() bytes, or the caller's own part of it is not well-formed

@@ -1,4 +1,4 @@
--- Every answer passes the checker for its request: a block of values has as many as its address asks, and the other blocks have none.
+-- Every answer passes the checker for its request: a block of values has as many as its address asks, and no other is counted.
 use mathlib.Core.Path.{_≡_, refl, _∙_}
 use mathlib.Core.Bool.{Bool, true, false, cond, not, _&&_, _||_}
 use mathlib.Core.List.{List, [], _∷_}
