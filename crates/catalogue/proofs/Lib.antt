@@ -1,3 +1,3 @@
-pub mod Walk
 pub mod Elements
 pub mod Rows
+pub mod Sorted

@@ -1,6 +1,7 @@
 // The catalogue of an axis's parameters, and their elements in the bytes of a part.
 ghost use mathlib.Core.Path.{_≡_};
-ghost use Rattle.catalogue.specs.Table.{elementSize, rowAt, findOf};
+ghost use lib.ListN.{take, drop};
+ghost use Rattle.catalogue.specs.Table.{elementSize, rows, rowAt, findIn, findOf};
 ghost use Rattle.catalogue.specs.Element.{sizeCode, typeCode, valueOf, inside, elementOf, putElement, freshOf};
 
 // The type of a parameter's elements.
@@ -302,19 +303,114 @@ pub fn row_at(i: usize) -> Row
     }
 }
 
-// The row of a parameter number.
+// What the first quarter of the table, from 930 on, has of a parameter number. Each quarter is written out, with the upper of two rows
+// first: by a loop, by one function that is handed the rows, or with the lower row first, some numbers cost more than by a walk.
+fn first_quarter(pnu: u16) -> Found
+    ensures { λ r. ⌜ r ≡ findIn (take 3 rows) pnu ⌝ }
+{
+    if pnu < 944 {
+        if pnu == 930 {
+            Found::At(ROW_930)
+        } else {
+            Found::Nothing
+        }
+    } else {
+        if pnu == 947 {
+            Found::At(ROW_947)
+        } else if pnu == 944 {
+            Found::At(ROW_944)
+        } else {
+            Found::Nothing
+        }
+    }
+}
+
+// From 965 on.
+fn second_quarter(pnu: u16) -> Found
+    ensures { λ r. ⌜ r ≡ findIn (take 4 (drop 3 rows)) pnu ⌝ }
+{
+    if pnu < 9901 {
+        if pnu == 9900 {
+            Found::At(ROW_9900)
+        } else if pnu == 965 {
+            Found::At(ROW_965)
+        } else {
+            Found::Nothing
+        }
+    } else {
+        if pnu == 10100 {
+            Found::At(ROW_10100)
+        } else if pnu == 9901 {
+            Found::At(ROW_9901)
+        } else {
+            Found::Nothing
+        }
+    }
+}
+
+// From 10101 on.
+fn third_quarter(pnu: u16) -> Found
+    ensures { λ r. ⌜ r ≡ findIn (take 4 (drop 7 rows)) pnu ⌝ }
+{
+    if pnu < 10103 {
+        if pnu == 10102 {
+            Found::At(ROW_10102)
+        } else if pnu == 10101 {
+            Found::At(ROW_10101)
+        } else {
+            Found::Nothing
+        }
+    } else {
+        if pnu == 10111 {
+            Found::At(ROW_10111)
+        } else if pnu == 10103 {
+            Found::At(ROW_10103)
+        } else {
+            Found::Nothing
+        }
+    }
+}
+
+// From 30001 on.
+fn last_quarter(pnu: u16) -> Found
+    ensures { λ r. ⌜ r ≡ findIn (drop 11 rows) pnu ⌝ }
+{
+    if pnu < 30003 {
+        if pnu == 30002 {
+            Found::At(ROW_30002)
+        } else if pnu == 30001 {
+            Found::At(ROW_30001)
+        } else {
+            Found::Nothing
+        }
+    } else {
+        if pnu == 30004 {
+            Found::At(ROW_30004)
+        } else if pnu == 30003 {
+            Found::At(ROW_30003)
+        } else {
+            Found::Nothing
+        }
+    }
+}
+
+// The row of a parameter number, by halving the sorted table.
 pub fn find(pnu: u16) -> Found
     ensures { λ r. ⌜ r ≡ findOf pnu ⌝ }
 {
-    let mut i: usize = 0;
-    while i < ROWS {
-        let r = row_at(i);
-        if r.pnu == pnu {
-            return Found::At(r);
+    if pnu < 10101 {
+        if pnu < 965 {
+            first_quarter(pnu)
+        } else {
+            second_quarter(pnu)
         }
-        i += 1;
+    } else {
+        if pnu < 30001 {
+            third_quarter(pnu)
+        } else {
+            last_quarter(pnu)
+        }
     }
-    Found::Nothing
 }
 
 // Bytes of an element.

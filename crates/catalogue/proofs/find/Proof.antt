@@ -1,70 +1,58 @@
--- The loop's invariant: what is found is what the rows from i on have.
-use Rattle.catalogue.specs.declared.Row.{Row}
-use Rattle.catalogue.specs.declared.Found.the-variants.{At}
-use Rattle.catalogue.specs.Table.{rows, rowAt, findIn, findOf}
-use Rattle.catalogue.proofs.Walk.{find-here, find-end}
-use mathlib.Core.Path.{_≡_, refl, sym, ap, _∙_}
-use mathlib.Core.Bool.{cond}
-use Prim.Native.Nat.{_+_, _-_, _≤_}
-use lib.ListN.{length, drop}
-use borrow.Author.Tests.{eq-eqb, ne-eqb}
+-- Each quarter has what the whole table has of the numbers that come to it.
+use mathlib.Core.Path.{_∙_}
 use native.Mathlib.Omega.{arith}
+use lib.ListN.{drop}
 use borrow.Author.Needs.{needs}
+use Rattle.catalogue.specs.Table.{rows, findOf}
+use Rattle.catalogue.proofs.Sorted.{rows-sorted, sorted-drop, lower-half, upper-half}
 use Rattle.catalogue.proofs.find.Statement.{statement}
 use Rattle.catalogue.proofs.find.Tie as tie
 
-abbrev Inv-loop : tie.InvT-loop
-Inv-loop pnu i₀ i = (i ≤ length rows) × (findOf pnu ≡ findIn (drop i rows) pnu)
+first-quarter-requires : tie.Need-first-quarter-requires
+first-quarter-requires c κs = search needs
 
-abbrev μ-loop : tie.MeasureT-loop
-μ-loop pnu i₀ i = length rows - i
+second-quarter-requires : tie.Need-second-quarter-requires
+second-quarter-requires c κs = search needs
 
-loop-holds : tie.Need-loop-holds Inv-loop μ-loop
-unfolding findOf
-loop-holds c = (omega arith, refl)
+third-quarter-requires : tie.Need-third-quarter-requires
+third-quarter-requires c κs = search needs
 
-row-at-requires : tie.Need-row-at-requires Inv-loop μ-loop
-row-at-requires c κs = search needs
+last-quarter-requires : tie.Need-last-quarter-requires
+last-quarter-requires c κs = search needs
 
-returns : tie.Need-returns Inv-loop μ-loop
-unfolding rows
+returns : tie.Need-returns
+unfolding findOf rows
 returns c =
-    let l = c .before .before .before .before .loop in
-    let pnu = c .before .before .before .before .before .args .pnu in
-    let e = c .before .before .row-at .ensures in
-    let h : rowAt (l .i) .pnu ≡ pnu = sym (ap (λ (r : Row). r .pnu) e) ∙ c .if1 .taken in
-    ap At e ∙ sym (l .inv .1 ∙ (find-here (l .i) pnu (omega arith) ∙ ap (λ b. cond b (At (rowAt (l .i))) (findIn (drop (l .i + 1) rows) pnu)) (eq-eqb _ _ h)))
+    let pnu = c .before .before .before .args .pnu in
+    c .first-quarter .ensures ∙ lower-half 3 rows rows-sorted pnu (omega arith)
 
-add-i : tie.Need-add-i Inv-loop μ-loop
-unfolding rows
-add-i c = omega arith
+returns-2 : tie.Need-returns-2
+unfolding findOf rows
+returns-2 c =
+    let pnu = c .before .before .before .args .pnu in
+    c .second-quarter .ensures ∙ (lower-half 4 (drop 3 rows) (sorted-drop 3 rows rows-sorted) pnu (omega arith) ∙ upper-half 3 rows rows-sorted (omega arith) pnu (omega arith))
 
-loop-less : tie.Need-loop-less Inv-loop μ-loop
-unfolding rows
-loop-less c = omega arith
+returns-3 : tie.Need-returns-3
+unfolding findOf rows
+returns-3 c =
+    let pnu = c .before .before .before .args .pnu in
+    c .third-quarter .ensures ∙ (lower-half 4 (drop 7 rows) (sorted-drop 7 rows rows-sorted) pnu (omega arith) ∙ upper-half 7 rows rows-sorted (omega arith) pnu (omega arith))
 
-loop-again : tie.Need-loop-again Inv-loop μ-loop
-unfolding rows
-loop-again c =
-    let l = c .before .before .before .before .loop in
-    let pnu = c .before .before .before .before .before .args .pnu in
-    let h : (rowAt (l .i) .pnu ≡ pnu → ⊥) = λ q. c .if1 .left (ap (λ (r : Row). r .pnu) (c .before .before .row-at .ensures) ∙ q) in
-    (omega arith, l .inv .1 ∙ (find-here (l .i) pnu (omega arith) ∙ ap (λ b. cond b (At (rowAt (l .i))) (findIn (drop (l .i + 1) rows) pnu)) (ne-eqb _ _ h)))
-
-returns-2 : tie.Need-returns-2 Inv-loop μ-loop
-unfolding rows
-returns-2 c = let l = c .before .loop in sym (l .inv .1 ∙ find-end (l .i) (c .before .before .args .pnu) (omega arith))
+returns-4 : tie.Need-returns-4
+unfolding findOf rows
+returns-4 c =
+    let pnu = c .before .before .before .args .pnu in
+    c .last-quarter .ensures ∙ upper-half 11 rows rows-sorted (omega arith) pnu (omega arith)
 
 pub find-spec : {M : Type 1} → statement M
 find-spec =
     tie.close
     (tie.spec
-    Inv-loop
-    μ-loop
-    loop-holds
-    row-at-requires
+    first-quarter-requires
+    second-quarter-requires
+    third-quarter-requires
+    last-quarter-requires
     returns
-    add-i
-    loop-less
-    loop-again
-    returns-2)
+    returns-2
+    returns-3
+    returns-4)

@@ -1,10 +1,24 @@
 -- The code's table is the definition's, row by row.
-use Rattle.catalogue.specs.Table.{rows, rowAt}
-use Rattle.catalogue.proofs.Walk.{row-end, above}
-use mathlib.Core.Path.{sym}
+use mathlib.Core.Path.{_≡_, sym}
+use Prim.Native.Nat.{ℕ, _+_, _≤_}
+use native.Mathlib.Decide.{decLe}
 use native.Mathlib.Omega.{arith}
+use lib.ListN.{length, List·getD-eq-default}
+use Rattle.catalogue.specs.Table.{rows, noRow, rowAt}
 use Rattle.catalogue.proofs.row_at.Statement.{statement}
 use Rattle.catalogue.proofs.row_at.Tie as tie
+
+row-end : (i : ℕ) → length rows ≤ i → rowAt i ≡ noRow
+unfolding rowAt
+row-end i h = List·getD-eq-default rows noRow {n = i} h
+
+-- a number that is not the next one is above it
+above : (k i : ℕ) → k ≤ i → (i ≡ k → ⊥) → k + 1 ≤ i
+above k i h n = go (decLe (k + 1) i)
+  where
+    go : Dec (k + 1 ≤ i) → k + 1 ≤ i
+    go (yes y) = y
+    go (no m) = absurd (n (omega arith))
 
 returns : tie.Need-returns
 unfolding rowAt rows
