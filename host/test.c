@@ -1325,6 +1325,84 @@ static void addresses(void)
           "42 01 05 DC");
 }
 
+/* Element 0 of each parameter, no two the same, as elements_apart leaves them; of a number that is none, error 0x00. */
+static const char *element_0(unsigned pnu)
+{
+    switch (pnu) {
+    case 930:
+        return "42 01 00 01";
+    case 944:
+        return "42 01 00 02";
+    case 947:
+        return "42 01 AB CD";
+    case 965:
+        return "41 01 03 00";
+    case 9900:
+        return "42 01 11 11";
+    case 9901:
+        return "42 01 22 22";
+    case 10100:
+        return "42 01 04 00";
+    case 10101:
+        return "42 01 00 64";
+    case 10102:
+        return "42 01 03 48";
+    case 10103:
+        return "42 01 00 07";
+    case 10111:
+        return "42 01 33 33";
+    case 30001:
+        return "42 01 04 44";
+    case 30002:
+        return "42 01 05 55";
+    case 30003:
+        return "42 01 06 66";
+    case 30004:
+        return "43 01 00 00 07 77";
+    default:
+        return "44 01 00 00";
+    }
+}
+
+/* Two codes for the counter and the buffer, a word and speeds, and a change of each parameter that can be written. */
+static void elements_apart(void)
+{
+    struct turn fault = { .axis = 1, .stw1 = 0x0400, .nsoll = 100, .nist = 7, .state = 1, .status = 0x0348 };
+
+    fresh_station();
+    fault.fault = 0xABCD;
+    cycle("a code", fault);
+    fault.fault = 0x1234;
+    cycle("a second code", fault);
+    exchange("all that can be written", 1,
+             "5F 00 2F 4C  07 02 01 07  10 01 26 AC 00 00  10 01 26 AD 00 00  10 01 27 7F 00 00  10 01 75 31 00 00 "
+             "10 01 75 32 00 00  10 01 75 33 00 00  10 01 75 34 00 00  42 01 11 11  42 01 22 22  42 01 33 33 "
+             "42 01 04 44  42 01 05 55  42 01 06 66  43 01 00 00 07 77", 0, 7, "5E 00 2F 04  07 02 01 07");
+}
+
+/* R-5: "its answer stays the same for every number". All 65536 are read, 39 in each call and the rest in the last; every
+ * call has some that are none, so its response is 81. */
+static void every_number(void)
+{
+    elements_apart();
+    for (unsigned pnu = 0; pnu <= 0xFFFF;) {
+        struct bytes request = hex("5F 00 2F 00  07 01 01 00"), response = hex("5E 00 2F 00  07 81 01 00");
+        const char *name = named("numbers from %u on", pnu);
+
+        for (; pnu <= 0xFFFF && request.at[7] < 39; pnu++) {
+            add(&request, "10 01 00 00 00 00");
+            request.at[request.len - 4] = (uint8_t)(pnu >> 8);
+            request.at[request.len - 3] = (uint8_t)pnu;
+            request.at[7]++;
+            add(&response, element_0(pnu));
+        }
+        request.at[3] = (uint8_t)(request.len - 4);
+        response.at[3] = (uint8_t)(response.len - 4);
+        response.at[7] = request.at[7];
+        exchange_sent(name, (struct sending){ 1, request, 0, REPLY, 0, 0, response });
+    }
+}
+
 /* All six states, the sides of bit 8, bit 10, and signed numbers both ways. 047F leads on, 047E ramps down, 047B stops
  * quickly, 045F holds the setpoint, 043F takes it away, and a word of 0 is not taken. */
 static const struct turn turns[] = {
@@ -1936,6 +2014,7 @@ static const struct group {
     { "fill bytes read", fill_bytes_read },
     { "fill bytes waiting", fill_bytes_waiting },
     { "address rules", addresses },
+    { "every parameter number", every_number },
     { "cycles", cycles },
     { "faults", faults },
     { "check, yes and numbers 1, 2 and 7", checked_by_hand },

@@ -22,7 +22,9 @@ pub enum Kind {
 const KNOWN: [u16; 15] =
     [930, 944, 947, 965, 10100, 10101, 10102, 10103, 9900, 9901, 10111, 30001, 30002, 30003, 30004];
 const WRITABLE: &[u16] = KNOWN.split_at(8).1;
-const UNKNOWN: [u16; 14] = [0, 1, 929, 931, 943, 945, 946, 948, 964, 9899, 9902, 10104, 30005, 65535];
+/// No parameters: beside each known number, on both sides, and far off.
+const UNKNOWN: [u16; 19] =
+    [0, 1, 929, 931, 943, 945, 946, 948, 964, 966, 9899, 9902, 10099, 10104, 10110, 10112, 30000, 30005, 65535];
 const FORMATS: [u8; 9] = [0x41, 2, 5, 0x42, 3, 6, 0x43, 4, 7];
 
 /// A frame of the farm of this axis, which may have a response of this length waiting, and how it is sent.
