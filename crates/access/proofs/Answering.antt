@@ -12,13 +12,14 @@ use Rattle.blocks.specs.Block.{Block}
 use Rattle.blocks.specs.Page.{blockBytes}
 use Rattle.blocks.specs.declared.reader.Address.{Address}
 use Rattle.catalogue.specs.declared.Row.{Row}
-use Rattle.catalogue.specs.Element.{sizeCode, typeCode, inside, putElement}
+use Rattle.catalogue.specs.Element.{sizeCode, typeCode}
 use Rattle.access.specs.declared.Checked.{Checked}
 use Rattle.access.specs.declared.Checked.the-variants.{Elements, Error}
 use Rattle.access.specs.declared.change.Done.{Done}
 use Rattle.access.specs.Address.{checked, errorBlock, emptyBlock}
-use Rattle.access.specs.Change.{Changed, failure, oneMore, storeFrom, ofElements, ofChecked, changeOne, changeAll}
+use Rattle.access.specs.Change.{Changed, failure, allInside, storeWhole, ofElements, ofChecked, changeOne, changeAll}
 use Rattle.access.specs.Walk.{answerIn, Wrote}
+use Rattle.access.proofs.Checks.{pick}
 use Rattle.access.proofs.Room.{error-size}
 
 pub answer-error : (d : Done) → d .failed ≡ true → errorBlock (d .error) ≡ answerIn d
@@ -50,13 +51,8 @@ failure-brief : (t : Bool) (e : ℕ) (p : List ℕ) (c : Changed) → Brief c �
 failure-brief true e p c k = record { short = error-short e }
 failure-brief false e p c k = k
 
-store-brief : (r : Row) (i : ℕ) (xs p : List ℕ) → Brief (storeFrom r i xs p)
-store-brief r i [] p = record { short = empty-short }
-store-brief r i (x ∷ xs) p = go (inside r x) (store-brief r (i + 1) xs (putElement r i x p))
-  where
-    go : (t : Bool) → Brief (storeFrom r (i + 1) xs (putElement r i x p)) → Brief (cond t (oneMore (storeFrom r (i + 1) xs (putElement r i x p))) (failure 0x02 p))
-    go true k = record { short = k .short }
-    go false k = record { short = error-short 0x02 }
+store-brief : (r : Row) (i : ℕ) (xs p : List ℕ) → Brief (storeWhole r i xs p)
+store-brief r i xs p = pick Brief (allInside r xs) (λ t. record { short = empty-short }) (λ t. record { short = error-short 0x02 })
 
 elements-brief : (a : Address) (b : Block) (p : List ℕ) (r : Row) (n : ℕ) → Brief (ofElements a b p r n)
 elements-brief a b p r n =

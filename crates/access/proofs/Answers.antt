@@ -1,5 +1,5 @@
 -- Every answer to a request is a response of document 01, with the request's header, and takes at most 240 bytes.
-use mathlib.Core.Path.{_≡_, refl, sym, ap, _∙_}
+use mathlib.Core.Path.{_≡_, refl, sym, ap, subst, _∙_}
 use mathlib.Core.Bool.{Bool, true, false, cond, not, _||_, or-false}
 use mathlib.Core.List.{List, [], _∷_}
 use mathlib.Core.Logic.{_⊎_, inl, inr}
@@ -13,7 +13,7 @@ use borrow.Author.Tests.{leb-true, le-leb, lt-ltb, eqb-true, eqb-false, not-fals
 use borrow.Table.Steps.{cases}
 use Rattle.codes.specs.Code.{AllOf, writeAll}
 use Rattle.codes.specs.Number.{numberAt}
-use Rattle.blocks.specs.Block.{Block, blockLimit, formatSize, valueSize, responseBlockFits, valuesOf, valuesSize}
+use Rattle.blocks.specs.Block.{Block, blockLimit, formatSize, valueSize, changeBlockFits, responseBlockFits, valuesOf, valuesSize}
 use Rattle.blocks.specs.Request.{Request, requestBlocks}
 use Rattle.blocks.specs.Response.{Response, isAnswer, responseBlocks, isError, hasError, errorsFit, response}
 use Rattle.blocks.specs.Page.{BlockFits, RequestFits, ResponseFits, blockBytes, responseBytes}
@@ -25,13 +25,13 @@ use Rattle.catalogue.specs.declared.Kind.{Kind}
 use Rattle.catalogue.specs.declared.Kind.the-variants.{U8, U16, I16, I32}
 use Rattle.catalogue.specs.declared.Row.{Row}
 use Rattle.catalogue.specs.Table.{elementSize}
-use Rattle.catalogue.specs.Element.{sizeCode, typeCode, inside, putElement}
+use Rattle.catalogue.specs.Element.{sizeCode, typeCode}
 use Rattle.catalogue.proofs.Elements.{element-small}
 use Rattle.access.specs.declared.Checked.{Checked}
 use Rattle.access.specs.declared.Checked.the-variants.{Elements, Error}
 use Rattle.access.specs.Address.{checked, errorBlock, emptyBlock}
 use Rattle.access.specs.Read.{elementsFrom, blockSize, answerTo, readBlock, readBlocks}
-use Rattle.access.specs.Change.{Changed, failure, storeFrom, ofElements, ofChecked, changeOne, changeAll}
+use Rattle.access.specs.Change.{Changed, failure, allInside, success, ofElements, ofChecked, changeOne, changeAll}
 use Rattle.access.specs.Work.{Worked, answerOf, worked}
 use Rattle.access.proofs.Checks.{pick, Named, CheckedFits, checked-fits}
 use Rattle.access.specs.Laws.{SameHeader, AnswersHeader, AnswerFits, AnswerShort, AnswerReadable, AnswerAxis, blocksOf, OneEach, AnswersBlocks, AnswersIdentifier, FailureAnswered}
@@ -51,23 +51,24 @@ type-same U16 = refl
 type-same I16 = refl
 type-same I32 = refl
 
-format-same : (k : Kind) (f : ℕ) → eqb f (sizeCode k) || eqb f (typeCode k) ≡ true → valueSize f ≡ elementSize k
+pub format-same : (k : Kind) (f : ℕ) → eqb f (sizeCode k) || eqb f (typeCode k) ≡ true → valueSize f ≡ elementSize k
 format-same k f e =
     cases (eqb f (sizeCode k))
     (λ t. ap valueSize (eqb-true f (sizeCode k) t) ∙ size-same k)
     (λ t. ap valueSize (eqb-true f (typeCode k) (rw t at e)) ∙ type-same k)
 
--- A change of one address fails, or its values are stored one by one: then these are as many and as wide as the elements.
+-- A change of one address fails, or its values are stored: then these are as many and as wide as the elements, and inside their limits.
 pub record Stores (a : Address) (b : Block) (r : Row) (n : ℕ) : Type 0 where
   pub passed : checked a ≡ Elements r n
   pub named : Named a r n
   pub writable : r .writable ≡ true
-  pub wide : valueSize (b .format) ≡ elementSize (r .kind)
+  pub format : eqb (b .format) (sizeCode (r .kind)) || eqb (b .format) (typeCode (r .kind)) ≡ true
   pub count : length (b .values) ≡ n
+  pub inside : allInside r (b .values) ≡ true
 
 module _ (a : Address) (b : Block) (p : List ℕ) (P : Changed → Type 0)
     (refuses : (e : ℕ) → e < 65536 → P (failure e p))
-    (stores : (r : Row) (n : ℕ) → Stores a b r n → P (storeFrom r (a .subindex) (b .values) p)) where
+    (stores : (r : Row) (n : ℕ) → Stores a b r n → P (success r (a .subindex) (b .values) p)) where
   elements-cases : (r : Row) (n : ℕ) → checked a ≡ Elements r n → Named a r n → P (ofElements a b p r n)
   elements-cases r n s h =
       let known = eqb (b .format) (sizeCode (r .kind)) || eqb (b .format) (typeCode (r .kind)) in
@@ -75,14 +76,18 @@ module _ (a : Address) (b : Block) (p : List ℕ) (P : Changed → Type 0)
       (λ t. pick P (not known) (λ u. refuses 0x05 (lit< tt))
       (λ u. pick P (not (eqb (length (b .values)) n)) (λ v. refuses 0x18 (lit< tt))
       (λ v.
+      pick P (allInside r (b .values))
+      (λ x.
       stores r n
       (record {
         passed = s;
         named = h;
         writable = not-false (r .writable) t;
-        wide = format-same (r .kind) (b .format) (not-false known u);
+        format = not-false known u;
         count = eqb-true (length (b .values)) n (not-false (eqb (length (b .values)) n) v);
-      }))))
+        inside = x;
+      }))
+      (λ x. refuses 0x02 (lit< tt)))))
 
   pub change-cases : P (changeOne a b p)
   unfolding changeOne
@@ -91,6 +96,10 @@ module _ (a : Address) (b : Block) (p : List ℕ) (P : Changed → Type 0)
       go : (c : Checked) → checked a ≡ c → CheckedFits a c → P (ofChecked a b p c)
       go (Error e) s small = refuses e small
       go (Elements r n) s h = elements-cases r n s h
+
+-- its values are as wide as the elements
+pub stored-small : (a : Address) (b : Block) (r : Row) (n : ℕ) → Stores a b r n → BlockFits changeBlockFits b → AllOf (λ x. x < 256 ^ elementSize (r .kind)) (b .values)
+stored-small a b r n s g = subst (λ (w : ℕ). AllOf (λ x. x < 256 ^ w) (b .values)) (format-same (r .kind) (b .format) (s .format)) (g .values)
 
 -- An error word and `40 00`: they fit where they may stand, and take at most 4 bytes.
 error-fits : (id e : ℕ) → responseBlockFits id 0x44 1 ≡ true → e < 65536 → BlockFits (responseBlockFits id) (errorBlock e)
@@ -199,13 +208,8 @@ small-empty = (record { format = lit< tt; number = lit< tt; allowed = refl; valu
 abbrev AnswerSmall : Changed → Type 0
 AnswerSmall c = Small (c .block)
 
-store-answer : (r : Row) (i : ℕ) (xs p : List ℕ) → AnswerSmall (storeFrom r i xs p)
-store-answer r i [] p = small-empty
-store-answer r i (x ∷ xs) p =
-    pick AnswerSmall (inside r x) (λ t. store-answer r (i + 1) xs (putElement r i x p)) (λ t. small-error 0x02 (lit< tt))
-
 change-one : (a : Address) (b : Block) (p : List ℕ) → AnswerSmall (changeOne a b p)
-change-one a b p = change-cases a b p AnswerSmall small-error (λ r n s. store-answer r (a .subindex) (b .values) p)
+change-one a b p = change-cases a b p AnswerSmall small-error (λ r n s. small-empty)
 
 change-all : (them : List Address) (bs : List Block) (p : List ℕ) (used : ℕ) → length bs ≡ length them → used + 4 * length them ≤ blockLimit → Run 0x82 used (length them) (changeAll them bs p .blocks)
 change-all [] bs p used e room = record { fits = tt; count = refl; short = omega arith }

@@ -1,8 +1,8 @@
 -- Each law of specs/Laws.antt that no other proof uses whole, at work on requests that are written out: one that is made weaker fails here.
 -- What a law concludes is written out too, and nothing of that is unfolded.
-use mathlib.Core.Path.{_≡_, refl, sym, ap, subst, _∙_}
-use mathlib.Core.Bool.{true, false}
-use mathlib.Core.List.{List, [], _∷_, List·Memᴰ, List·Memᴰ·not-nil, List·Memᴰ·cases-cons}
+use mathlib.Core.Path.{_≡_, refl, sym, ap, _∙_}
+use mathlib.Core.Bool.{true, false, true≢false}
+use mathlib.Core.List.{List, [], _∷_, List·Memᴰ}
 use mathlib.Core.Logic.{_⊎_, inl, inr}
 use Prim.Native.Nat.{ℕ, _+_, _-_, _≤_, _<_}
 use native.Mathlib.Omega.{arith}
@@ -23,12 +23,12 @@ use Rattle.access.specs.declared.Checked.{Checked}
 use Rattle.access.specs.declared.Checked.the-variants.{Elements, Error}
 use Rattle.access.specs.Address.{checked, errorBlock}
 use Rattle.access.specs.Read.{readBlock, readBlocks}
-use Rattle.access.specs.Change.{changeOne, changeAll}
+use Rattle.access.specs.Change.{Changed, changeOne, changeAll}
 use Rattle.access.specs.Work.{worked}
-use Rattle.access.specs.Laws.{blocksOf, Names, Asked, Allowed}
+use Rattle.access.specs.Laws.{blocksOf, Names, StoredBy, Stored, Storable, Allowed}
 use Rattle.access.proofs.Answers.{answers-header, one-each, answers-blocks, answers-identifier, failure-answered}
-use Rattle.access.proofs.Keeps.{read-keeps, only-asked-changes}
-use Rattle.access.proofs.There.{stored-is-there, answered-is-stored, read-is-there}
+use Rattle.access.proofs.Keeps.{read-keeps, only-stored-changes}
+use Rattle.access.proofs.There.{stored-is-there, whole-or-none, answered-exactly, counts-stored, read-is-there}
 
 -- a change: level marks 1 and 2, then 9900, then the marks again, at their limits
 marks : Address
@@ -45,6 +45,13 @@ number = record { format = 0x42; values = 65535 ∷ [] }
 
 setThree : Request
 setThree = record { reference = 255; identifier = 2; axis = 1; addresses = marks ∷ user ∷ marks ∷ []; blocks = levels ∷ number ∷ levels ∷ [] }
+
+-- the same, but that the last address has a mark above its limit
+tooHigh : Block
+tooHigh = record { format = 0x42; values = 1000 ∷ 3001 ∷ [] }
+
+setTwo : Request
+setTwo = record { reference = 255; identifier = 2; axis = 1; addresses = marks ∷ user ∷ marks ∷ []; blocks = levels ∷ number ∷ tooHigh ∷ [] }
 
 -- a read of a parameter that there is not
 nowhere : Address
@@ -69,9 +76,14 @@ number-fits : BlockFits changeBlockFits number
 unfolding number changeBlockFits formatSize valueSize
 number-fits = record { format = lit< tt; number = lit< tt; allowed = refl; values = (lit< tt, tt) }
 
-set-fits : RequestFits setThree
-unfolding setThree requestBlocks
-set-fits =
+high-fits : BlockFits changeBlockFits tooHigh
+unfolding tooHigh changeBlockFits formatSize valueSize
+high-fits = record { format = lit< tt; number = lit< tt; allowed = refl; values = (lit< tt, (lit< tt, tt)) }
+
+-- three addresses, the last with any block of values
+three-fit : (b : Block) → BlockFits changeBlockFits b → RequestFits (record { reference = 255; identifier = 2; axis = 1; addresses = marks ∷ user ∷ marks ∷ []; blocks = levels ∷ number ∷ b ∷ [] })
+unfolding requestBlocks
+three-fit b g =
     record {
       reference = (lit≤ tt, lit≤ tt);
       identifier = (lit≤ tt, lit≤ tt);
@@ -79,8 +91,16 @@ set-fits =
       number = (lit≤ tt, lit≤ tt);
       addresses = (marks-fit, (user-fits, (marks-fit, tt)));
       count = refl;
-      blocks = (levels-fit, (number-fits, (levels-fit, tt)));
+      blocks = (levels-fit, (number-fits, (g, tt)));
     }
+
+set-fits : RequestFits setThree
+unfolding setThree
+set-fits = three-fit levels levels-fit
+
+two-fit : RequestFits setTwo
+unfolding setTwo
+two-fit = three-fit tooHigh high-fits
 
 read-fits : RequestFits readNothing
 unfolding readNothing nowhere requestBlocks
@@ -94,6 +114,15 @@ read-fits =
       count = refl;
       blocks = tt;
     }
+
+-- the row that was found, and the one that an address names
+rowAt : Row → Found → Row
+rowAt q (At r) = r
+rowAt q Nothing = q
+
+rowOf : Row → Checked → Row
+rowOf q (Elements r n) = r
+rowOf q (Error e) = q
 
 module _ (p : List ℕ) where
   -- AnswersHeader
@@ -144,17 +173,35 @@ module _ (p : List ℕ) where
   unfolding marks
   marks-read q e ok k = read-is-there marks p 4 0 q 2 k e ok
 
-  -- AnsweredIsStored
-  all-stored : isError (changeOne marks levels p .block) ≡ false → changeOne marks levels p .stored ≡ 2
-  unfolding levels
-  all-stored = answered-is-stored marks levels p
-
-  -- what is stored is counted over all addresses
+  -- CountsStored: all of the three addresses, or of the two without an error
   counted : worked setThree p .stored ≡ 5
-  unfolding setThree marks levels user number worked changeOne checked findOf rows inside
-  counted = refl
+  unfolding setThree marks levels user number changeOne checked findOf rows inside
+  counted = counts-stored setThree p refl
 
--- OnlyAskedChanges: no element but marks 1 and 2 and 9900
+  counted-two : worked setTwo p .stored ≡ 3
+  unfolding setTwo marks levels user number tooHigh changeOne checked findOf rows inside
+  counted-two = counts-stored setTwo p refl
+
+  -- WholeOrNone
+  whole : isError (changeOne marks levels p .block) ≡ false → changeOne marks levels p .stored ≡ 2
+  unfolding levels
+  whole = whole-or-none marks levels p .0
+
+  none-of-it : isError (changeOne marks tooHigh p .block) ≡ true → (changeOne marks tooHigh p .stored ≡ 0) × (changeOne marks tooHigh p .part ≡ p)
+  none-of-it = whole-or-none marks tooHigh p .1
+
+  -- AnsweredExactly, both ways: one value alone is outside
+  storable : Storable marks levels → isError (changeOne marks levels p .block) ≡ false
+  storable = answered-exactly marks levels p .1
+
+  limits : isError (changeOne marks tooHigh p .block) ≡ false → (q : Row) → findOf 30001 ≡ At q → (inside q 1000 ≡ true) × (inside q 3001 ≡ true)
+  unfolding marks tooHigh checked findOf rows rowAt rowOf
+  limits e q f =
+      let s = answered-exactly marks tooHigh p .0 e in
+      let same : q ≡ s .row = sym (ap (rowAt q) f) ∙ ap (rowOf q) (s .passed) in
+      rw same (s .limits .0, s .limits .1 .0)
+
+-- OnlyStoredChanges: no element but marks 1 and 2 and 9900
 howMany : Checked → ℕ
 howMany (Elements r n) = n
 howMany (Error e) = 0
@@ -172,23 +219,18 @@ not-user q j d n = let one : 1 ≡ n .number = ap howMany (n .passed) in d .1 (n
 
 others-kept : (p : List ℕ) (q : Row) → List·Memᴰ q rows → (j : ℕ) → j < q .count → Differs q j → elementOf q j (worked setThree p .part) ≡ elementOf q j p
 unfolding setThree
-others-kept p q m j few d = go (only-asked-changes setThree p set-fits .elements q m j few)
+others-kept p q m j few d = go (only-stored-changes setThree p set-fits .elements q m j few)
   where
-    named : {a b : Address} {as′ : List Address} → (Names b q j → ⊥) → (List·Memᴰ a as′ → Names a q j → ⊥) → (a ≡ b) ⊎ List·Memᴰ a as′ → Names a q j → ⊥
-    named one more (inl e) n = one (subst (λ (b : Address). Names b q j) e n)
-    named one more (inr e) n = more e n
+    none : {c d e : Changed} → StoredBy marks c q j ⊎ (StoredBy user d q j ⊎ (StoredBy marks e q j ⊎ ⊥)) → ⊥
+    none (inl x) = not-marks q j d (x .names)
+    none (inr (inl x)) = not-user q j d (x .names)
+    none (inr (inr (inl x))) = not-marks q j d (x .names)
 
-    none : {a : Address} → List·Memᴰ a (marks ∷ user ∷ marks ∷ []) → Names a q j → ⊥
-    none e =
-        named (not-marks q j d)
-        (λ f. named (not-user q j d) (λ g. named (not-marks q j d) (λ h n. List·Memᴰ·not-nil h) (List·Memᴰ·cases-cons g)) (List·Memᴰ·cases-cons f))
-        (List·Memᴰ·cases-cons e)
-
-    go : Allowed (Asked (setThree .addresses)) p (worked setThree p .part) q j → elementOf q j (worked setThree p .part) ≡ elementOf q j p
+    go : Allowed (λ q j. (q .writable ≡ true) × Stored (setThree .addresses) (setThree .blocks) p q j) p (worked setThree p .part) q j → elementOf q j (worked setThree p .part) ≡ elementOf q j p
     go (inl e) = e
-    go (inr n) = absurd (none (n .0 .sent) (n .0 .names))
+    go (inr n) = absurd (none (n .0 .1))
 
--- StoredIsThere: 9900, between two others, and the marks of the last address
+-- StoredIsThere: 9900, between two others, and the marks of the first address, as the last one has an error
 pnuOf : Found → ℕ
 pnuOf (At r) = r .pnu
 pnuOf Nothing = 0
@@ -209,25 +251,28 @@ module _ (p : List ℕ) (size : length p ≡ partSize) (q : Row) where
         blocks = refl;
         level = refl;
       })
-      q 0 (record { found = e; low = lit≤ tt; high = lit< tt }) (λ a. at (List·Memᴰ·cases-cons (a .sent)) (a .names))
+      q 0 (record { names = record { found = e; number = 1; passed = cc; low = lit≤ tt; high = lit< tt }; answered = refl }) later
     where
-      at : {a : Address} → (a ≡ marks) ⊎ List·Memᴰ a [] → Names a q 0 → ⊥
-      at (inl x) n = let y = subst (λ (b : Address). Names b q 0) x n in omega (arith, ap pnuOf (y .found ∙ sym e))
-      at (inr d) n = List·Memᴰ·not-nil d
+      later : {c : Changed} → StoredBy marks c q 0 ⊎ ⊥ → ⊥
+      later (inl x) = omega (arith, ap pnuOf (x .names .found ∙ sym e))
 
-  marks-there : findOf 30001 ≡ At q → (j : ℕ) → 1 ≤ j → j < 3 → elementOf q j (worked setThree p .part) ≡ getD (0 ∷ 3000 ∷ []) (j - 1) 0
-  unfolding setThree marks levels user number changeOne checked findOf rows inside
+  marks-there : findOf 30001 ≡ At q → (j : ℕ) → 1 ≤ j → j < 3 → elementOf q j (worked setTwo p .part) ≡ getD (0 ∷ 3000 ∷ []) (j - 1) 0
+  unfolding setTwo marks levels user number tooHigh changeOne checked findOf rows inside pnuOf
   marks-there e j low high =
-      stored-is-there setThree p set-fits refl size
+      stored-is-there setTwo p two-fit refl size
       (record {
-        earlier = marks ∷ user ∷ [];
+        earlier = [];
         address = marks;
-        later = [];
-        earlierBlocks = levels ∷ number ∷ [];
+        later = user ∷ marks ∷ [];
+        earlierBlocks = [];
         block = levels;
-        laterBlocks = [];
+        laterBlocks = number ∷ tooHigh ∷ [];
         addresses = refl;
         blocks = refl;
         level = refl;
       })
-      q j (record { found = e; low = low; high = high }) (λ a. List·Memᴰ·not-nil (a .sent))
+      q j (record { names = record { found = e; number = 2; passed = cc; low = low; high = high }; answered = refl }) later
+    where
+      later : {c : Changed} {m : List ℕ} → StoredBy user c q j ⊎ (StoredBy marks (changeOne marks tooHigh m) q j ⊎ ⊥) → ⊥
+      later (inl x) = omega (arith, ap pnuOf (x .names .found ∙ sym e))
+      later (inr (inl x)) = true≢false (x .answered)

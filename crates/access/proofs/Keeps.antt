@@ -1,5 +1,5 @@
--- What is kept of a part that a request is worked on: all but the elements that it asks for, their limits, and that it is well-formed.
-use mathlib.Core.Path.{_≡_, refl, sym, ap, subst, _∙_}
+-- What is kept of a part that a request is worked on: all but the elements that it stores, their limits, and that it is well-formed.
+use mathlib.Core.Path.{_≡_, refl, sym, ap, _∙_}
 use mathlib.Core.Bool.{Bool, true, false, cond, not, _&&_, _||_, true≢false, and-eq-true-iff}
 use mathlib.Core.List.{List, [], _∷_, List·Memᴰ, List·Memᴰ·head, List·Memᴰ·tail}
 use mathlib.Core.Logic.{_⊎_, inl, inr}
@@ -30,11 +30,11 @@ use Rattle.part.specs.Layout.{stateAt, lengthAt, responseAt, partSize, withResp
 use Rattle.part.specs.Record.{wordsAt}
 use Rattle.part.specs.WellFormed.{isState, everyElement, everyRow, limitsFit, fixedFit, waitingFits, unusedFit, wellFormed}
 use Rattle.part.proofs.Laws.{response-well-formed}
-use Rattle.access.specs.Change.{Changed, storeFrom, changeOne, changeAll}
+use Rattle.access.specs.Change.{allInside, storeFrom, success, changeOne, changeAll}
 use Rattle.access.specs.Work.{Worked, worked, Outcome, takenIf, outcomeOf}
-use Rattle.access.specs.Laws.{ReadKeeps, Names, Asked, Allowed, Kept, OnlyAskedChanges, RequestKeepsWellFormed, BlockKeepsWellFormed}
+use Rattle.access.specs.Laws.{ReadKeeps, StoredBy, Stored, Allowed, Kept, OnlyStoredChanges, RequestKeepsWellFormed, BlockKeepsWellFormed}
 use Rattle.access.proofs.Checks.{pick}
-use Rattle.access.proofs.Answers.{Stores, change-cases, answer-readable, answer-axis}
+use Rattle.access.proofs.Answers.{Stores, change-cases, stored-small, answer-readable, answer-axis}
 
 pub read-keeps : ReadKeeps
 unfolding worked
@@ -88,47 +88,45 @@ module _ (r : Row) (m : List·Memᴰ r rows) where
       go q j (yes room) (inl s) = inr ((s .0, omega (arith, s .1), omega (arith, s .1)), rw (s .0, s .1, element-stored r i x p room small) ok)
       go q j (no n) (inl s) = inl (ap (elementOf q j) (element-unstored r i x p (omega arith)))
 
-  pub store-kept : (i : ℕ) (xs p : List ℕ) → i + length xs ≤ r .count → AllOf (λ x. x < 256 ^ elementSize (r .kind)) xs → Kept (Among r i (length xs)) p (storeFrom r i xs p .part)
-  store-kept i [] p room small = kept-none p
-  store-kept i (x ∷ xs) p room small =
-      pick (λ (c : Changed). Kept (Among r i (length (x ∷ xs))) p (c .part)) (inside r x)
-      (λ ok.
+  pub store-kept : (i : ℕ) (xs p : List ℕ) → i + length xs ≤ r .count → AllOf (λ x. x < 256 ^ elementSize (r .kind)) xs → allInside r xs ≡ true → Kept (Among r i (length xs)) p (storeFrom r i xs p)
+  store-kept i [] p room small ok = kept-none p
+  store-kept i (x ∷ xs) p room small ok =
+      let two = and-eq-true-iff (inside r x) (allInside r xs) .0 ok in
       kept-then
-      (kept-more (λ q j a. (a .0, a .1, omega (arith, a .2))) (element-kept i x p (omega arith) ok (small .0)))
-      (kept-more (λ q j a. (a .0, omega (arith, a .1), omega (arith, a .2))) (store-kept (i + 1) xs (putElement r i x p) (omega arith) (small .1))))
-      (λ t. kept-none p)
+      (kept-more (λ q j a. (a .0, a .1, omega (arith, a .2))) (element-kept i x p (omega arith) (two .0) (small .0)))
+      (kept-more (λ q j a. (a .0, omega (arith, a .1), omega (arith, a .2))) (store-kept (i + 1) xs (putElement r i x p) (omega arith) (small .1) (two .1)))
 
 -- one address with its block of values
-abbrev AskedBy : Address → Row → ℕ → Type 0
-AskedBy a q j = Names a q j × (q .writable ≡ true)
+abbrev Writes : (Row → ℕ → Type 0) → Row → ℕ → Type 0
+Writes May q j = (q .writable ≡ true) × May q j
 
-change-kept : (a : Address) (b : Block) → BlockFits changeBlockFits b → (p : List ℕ) → Kept (AskedBy a) p (changeOne a b p .part)
-change-kept a b g p = change-cases a b p (λ c. Kept (AskedBy a) p (c .part)) (λ e small. kept-none p) stores
+change-kept : (a : Address) (b : Block) → BlockFits changeBlockFits b → (p : List ℕ) → Kept (Writes (StoredBy a (changeOne a b p))) p (changeOne a b p .part)
+change-kept a b g p = change-cases a b p (λ c. Kept (Writes (StoredBy a c)) p (c .part)) (λ e small. kept-none p) stores
   where
-    stores : (r : Row) (n : ℕ) → Stores a b r n → Kept (AskedBy a) p (storeFrom r (a .subindex) (b .values) p .part)
+    stores : (r : Row) (n : ℕ) → Stores a b r n → Kept (Writes (StoredBy a (success r (a .subindex) (b .values) p))) p (storeFrom r (a .subindex) (b .values) p)
     stores r n s =
-        let small : AllOf (λ x. x < 256 ^ elementSize (r .kind)) (b .values) = subst (λ (w : ℕ). AllOf (λ x. x < 256 ^ w) (b .values)) (s .wide) (g .values) in
         kept-more
         (λ q j x. (
-          record { found = rw (x .0) (s .named .found); number = n; passed = rw (x .0) (s .passed); low = x .1; high = omega (arith, s .count, x .2) },
           rw (x .0) (s .writable),
+          record {
+            names = record { found = rw (x .0) (s .named .found); number = n; passed = rw (x .0) (s .passed); low = x .1; high = omega (arith, s .count, x .2) };
+            answered = refl;
+          },
         ))
-        (store-kept r (s .named .row) (a .subindex) (b .values) p (omega (arith, s .count, s .named .room)) small)
+        (store-kept r (s .named .row) (a .subindex) (b .values) p (omega (arith, s .count, s .named .room)) (stored-small a b r n s g) (s .inside))
 
-pub all-kept : (them : List Address) (bs : List Block) (p : List ℕ) → AllOf (BlockFits changeBlockFits) bs → Kept (Asked them) p (changeAll them bs p .part)
-all-kept [] bs p g = kept-none p
+pub all-kept : (them : List Address) (sent : List Block) (p : List ℕ) → AllOf (BlockFits changeBlockFits) sent → Kept (Writes (Stored them sent p)) p (changeAll them sent p .part)
+all-kept [] sent p g = kept-none p
 all-kept (a ∷ more) [] p g = kept-none p
-all-kept (a ∷ more) (b ∷ bs) p g =
+all-kept (a ∷ more) (b ∷ sent) p g =
     kept-then
-    (kept-more (λ q j x. record { address = a; sent = List·Memᴰ·head refl; names = x .0; writable = x .1 }) (change-kept a b (g .0) p))
-    (kept-more
-    (λ q j x. record { address = x .address; sent = List·Memᴰ·tail (x .sent); names = x .names; writable = x .writable })
-    (all-kept more bs (changeOne a b p .part) (g .1)))
+    (kept-more (λ q j x. (x .0, inl (x .1))) (change-kept a b (g .0) p))
+    (kept-more (λ q j x. (x .0, inr (x .1))) (all-kept more sent (changeOne a b p .part) (g .1)))
 
-pub only-asked-changes : OnlyAskedChanges
+pub only-stored-changes : OnlyStoredChanges
 unfolding worked
-only-asked-changes r p f =
-    pick (λ (w : Worked). Kept (Asked (r .addresses)) p (w .part)) (eqb (r .identifier) 1)
+only-stored-changes r p f =
+    pick (λ (w : Worked). Kept (Writes (Stored (r .addresses) (r .blocks) p)) p (w .part)) (eqb (r .identifier) 1)
     (λ e. kept-none p)
     (λ e. all-kept (r .addresses) (r .blocks) p (f .blocks))
 
@@ -230,7 +228,7 @@ module _ (May : Row → ℕ → Type 0) (writes : (q : Row) (j : ℕ) → May q 
       same e t = e ∙ t
 
 pub request-keeps-well-formed : RequestKeepsWellFormed
-request-keeps-well-formed axis r p f = well-formed-kept (Asked (r .addresses)) (λ q j a. a .writable) p (worked r p .part) (only-asked-changes r p f) axis
+request-keeps-well-formed axis r p f = well-formed-kept (Writes (Stored (r .addresses) (r .blocks) p)) (λ q j x. x .0) p (worked r p .part) (only-stored-changes r p f) axis
 
 -- and with the response waiting in it
 pub answer-waits : (axis : ℕ) (r : Request) (p : List ℕ) → RequestFits r → r .axis ≡ axis → wellFormed axis p ≡ true

@@ -11,13 +11,13 @@ use Rattle.blocks.specs.declared.reader.Address.{Address}
 use Rattle.blocks.specs.Request.{Request, request}
 use Rattle.blocks.specs.Response.{response}
 use Rattle.catalogue.specs.declared.Row.{Row}
-use Rattle.catalogue.specs.Element.{sizeCode, typeCode, inside, putElement}
+use Rattle.catalogue.specs.Element.{sizeCode, typeCode, putElement}
 use Rattle.catalogue.proofs.Elements.{element-length}
 use Rattle.part.proofs.Laws.{response-length}
 use Rattle.access.specs.declared.Checked.{Checked}
 use Rattle.access.specs.declared.Checked.the-variants.{Elements, Error}
 use Rattle.access.specs.Address.{checked}
-use Rattle.access.specs.Change.{Changed, storeFrom, ofChecked, changeOne, changeAll}
+use Rattle.access.specs.Change.{Changed, allInside, storeFrom, ofChecked, changeOne, changeAll}
 use Rattle.access.specs.Work.{Worked, Outcome, worked, takenIf, outcomeOf}
 use Rattle.access.proofs.Checks.{pick}
 
@@ -25,10 +25,9 @@ use Rattle.access.proofs.Checks.{pick}
 abbrev Long : List ℕ → Changed → Type 0
 Long p c = length (c .part) ≡ length p
 
-store-length : (r : Row) (i : ℕ) (xs p : List ℕ) → Long p (storeFrom r i xs p)
+store-length : (r : Row) (i : ℕ) (xs p : List ℕ) → length (storeFrom r i xs p) ≡ length p
 store-length r i [] p = refl
-store-length r i (x ∷ xs) p =
-    pick (Long p) (inside r x) (λ t. store-length r (i + 1) xs (putElement r i x p) ∙ element-length r i x p) (λ t. refl)
+store-length r i (x ∷ xs) p = store-length r (i + 1) xs (putElement r i x p) ∙ element-length r i x p
 
 checked-length : (a : Address) (b : Block) (p : List ℕ) (c : Checked) → Long p (ofChecked a b p c)
 checked-length a b p (Error e) = refl
@@ -36,7 +35,7 @@ checked-length a b p (Elements r n) =
     pick (Long p) (not (r .writable)) (λ t. refl) (λ t.
     pick (Long p) (not (eqb (b .format) (sizeCode (r .kind)) || eqb (b .format) (typeCode (r .kind)))) (λ u. refl) (λ u.
     pick (Long p) (not (eqb (length (b .values)) n)) (λ v. refl) (λ v.
-    store-length r (a .subindex) (b .values) p)))
+    pick (Long p) (allInside r (b .values)) (λ x. store-length r (a .subindex) (b .values) p) (λ x. refl))))
 
 pub change-length : (as′ : List Address) (bs : List Block) (p : List ℕ) → length (changeAll as′ bs p .part) ≡ length p
 unfolding changeOne

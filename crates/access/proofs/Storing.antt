@@ -1,86 +1,112 @@
--- The loop over the values of one address: what is left to store from where it stands is what was to be stored at first.
+-- The values of one address: where they stand in its block, and the loops that test and store them.
 use mathlib.Core.Path.{_≡_, refl, sym, _∙_, ap}
-use mathlib.Core.Bool.{true, false, cond}
-use mathlib.Core.List.{List}
-use Prim.Native.Nat.{ℕ, _+_, _≤_, _<_}
+use mathlib.Core.Bool.{true, false, _&&_}
+use mathlib.Core.List.{List, [], _∷_}
+use Prim.Native.Nat.{ℕ, zero, suc, _+_, _-_, _*_, _≤_, _<_}
 use native.Mathlib.Omega.{arith}
-use native.Mathlib.Numerals.{add-one}
-use native.Mathlib.Nat.{add-assoc, add-zero}
-use lib.ListN.{length, getD, drop, drop-of-length-le}
-use lib.Seq.{drop-cons}
-use Rattle.codes.specs.Code.{Got, got, bad}
-use Rattle.codes.specs.Number.{valueOr}
+use native.Mathlib.Numerals.{sub-one}
+use lib.ListN.{length, getD, drop}
+use Rattle.codes.specs.Code.{Got}
+use Rattle.codes.specs.Number.{valueOr, numberAt}
+use Rattle.blocks.specs.Block.{Block, valueSize, changeBlockFits}
+use Rattle.blocks.specs.declared.Head.{Head}
+use Rattle.blocks.proofs.Blocks.{Stood, values-inside, value-stands}
 use Rattle.drive.specs.Faults.{bufferCodes}
-use Rattle.blocks.specs.Block.{Block, changeBlockFits, block}
-use Rattle.blocks.specs.Place.{valueIn, valueAt}
 use Rattle.catalogue.specs.declared.Row.{Row}
 use Rattle.catalogue.specs.Element.{inside, putElement}
+use Rattle.access.specs.declared.change.Done.{Done}
 use Rattle.access.specs.Address.{emptyBlock}
-use Rattle.access.specs.Change.{Changed, failure, oneMore, storeFrom}
-use Rattle.access.specs.Walk.{blockIn, Did}
+use Rattle.access.specs.Change.{allInside, storeFrom, storeWhole}
+use Rattle.access.specs.Walk.{blockIn, valuesAt, Did}
+use Rattle.access.proofs.Failing.{did-fail}
 
--- the value that the code takes is the j-th of the block
-pub value-is : (s : List ℕ) (at j : ℕ) → valueAt s at j ≡ getD (blockIn s at .values) j 0
-unfolding valueAt
-value-is s at j = go (block changeBlockFits .read (drop at s))
-  where
-    go : (g : Got Block) → valueIn j g ≡ getD (valueOr emptyBlock g .values) j 0
-    go (got b t) = refl
-    go bad = refl
+-- values that are each where they should be
+values-are : (w n : ℕ) (s : List ℕ) (at : ℕ) (vs : List ℕ) → length vs ≡ n → ((j : ℕ) → j < n → numberAt w s (at + j * w) ≡ getD vs j 0) → valuesAt w n s at ≡ vs
+values-are w zero s at [] e each = refl
+values-are w zero s at (x ∷ xs) e each = absurd (omega arith)
+values-are w (suc n) s at [] e each = absurd (omega arith)
+values-are w (suc n) s at (x ∷ xs) e each =
+    let first : numberAt w s at ≡ x = let z : at + 0 * w ≡ at = omega arith in rw z at (each 0 (omega arith)) in
+    rw (first, values-are w n s (at + w) xs (omega arith) (λ j h. let z : at + w + j * w ≡ at + suc j * w = omega arith in rw z (each (suc j) (omega arith))))
 
--- j elements were stored before
-abbrev more : ℕ → Changed → Changed
-more j c = record { block = c .block; part = c .part; stored = j + c .stored }
+-- the n values of a block that stands at a place, each of w bytes
+module _ (s : List ℕ) (at : ℕ) (h : Head) (b : Stood changeBlockFits s at h) (w n : ℕ) (wide : valueSize (h .format) ≡ w) (many : h .count ≡ n) where
+  width : w ≡ valueSize (b .it .format)
+  width = sym wide ∙ ap valueSize (b .format)
 
-more-one : (j : ℕ) (c : Changed) → more (j + 1) c ≡ more j (oneMore c)
-more-one j c = ap (λ (k : ℕ). record { block = c .block; part = c .part; stored = k }) (add-assoc j 1 (c .stored))
+  count : n ≡ length (b .it .values)
+  count = sym many ∙ b .count
 
-pub record Storing (r : Row) (i : ℕ) (vs p₀ p : List ℕ) (j : ℕ) : Type 0 where
-  pub few : j ≤ length vs
+  pub values-room : at + 2 + n * w ≤ length s
+  values-room =
+      let e : n * w ≡ length (b .it .values) * valueSize (b .it .format) = ap (λ (k : ℕ). k * w) count ∙ ap (λ (k : ℕ). length (b .it .values) * k) width in
+      omega (arith, e, values-inside changeBlockFits s at (b .it) (drop (h .next) s) (b .read))
+
+  pub values-stand : valuesAt w n s (at + 2) ≡ blockIn s at .values
+  values-stand =
+      ap (λ (k : ℕ). valuesAt w k s (at + 2)) count
+      ∙ (ap (λ (k : ℕ). valuesAt k (length (b .it .values)) s (at + 2)) width
+      ∙ (values-are (valueSize (b .it .format)) (length (b .it .values)) s (at + 2) (b .it .values) refl
+      (λ j k. value-stands changeBlockFits s at (b .it) (drop (h .next) s) j (b .read) k)
+      ∙ ap (λ (g : Got Block). valueOr emptyBlock g .values) (sym (b .read))))
+
+-- one value more
+values-next : (w left : ℕ) (s : List ℕ) (at : ℕ) → 0 < left → valuesAt w left s at ≡ numberAt w s at ∷ valuesAt w (left - 1) s (at + w)
+values-next w zero s at h = absurd (omega arith)
+values-next w (suc left) s at h = rw sub-one
+
+pub room-next : (w left at : ℕ) (s : List ℕ) → 0 < left → at + left * w ≤ length s → at + w + (left - 1) * w ≤ length s
+room-next w zero at s h room = absurd (omega arith)
+room-next w (suc left) at s h room = rw sub-one (omega arith)
+
+values-count : (w n : ℕ) (s : List ℕ) (at : ℕ) → length (valuesAt w n s at) ≡ n
+values-count w zero s at = refl
+values-count w (suc n) s at = ap suc (values-count w n s (at + w))
+
+-- The loop that tests: what is left to test from where it stands decides as all of them do.
+pub record Testing (r : Row) (w n : ℕ) (s : List ℕ) (at₀ at left : ℕ) : Type 0 where
+  pub room : at + left * w ≤ length s
+  pub todo : allInside r (valuesAt w left s at) ≡ allInside r (valuesAt w n s at₀)
+
+module _ (r : Row) (w n : ℕ) (s : List ℕ) (at₀ at left : ℕ) (c : Testing r w n s at₀ at left) where
+  module _ (x : ℕ) (h : 0 < left) (e : x ≡ numberAt w s at) where
+    here : inside r x && allInside r (valuesAt w (left - 1) s (at + w)) ≡ allInside r (valuesAt w n s at₀)
+    here = rw e (ap (allInside r) (sym (values-next w left s at h)) ∙ c .todo)
+
+    pub test-next : inside r x ≡ true → Testing r w n s at₀ (at + w) (left - 1)
+    test-next t = record { room = room-next w left at s h (c .room); todo = rw t at here }
+
+    pub test-stop : inside r x ≡ false → false ≡ allInside r (valuesAt w n s at₀)
+    test-stop t = rw t at here
+
+  pub test-end : left ≡ 0 → true ≡ allInside r (valuesAt w n s at₀)
+  test-end e = rw e at (c .todo)
+
+-- The loop that stores: what is left to store from where it stands is what was to be stored at first.
+pub record Storing (r : Row) (w n : ℕ) (s : List ℕ) (at₀ i : ℕ) (p₀ p : List ℕ) (at to left : ℕ) : Type 0 where
+  pub room : at + left * w ≤ length s
+  pub few : to + left ≤ bufferCodes
   pub size : length p ≡ length p₀
-  pub todo : more j (storeFrom r (i + j) (drop j vs) p) ≡ storeFrom r i vs p₀
+  pub todo : storeFrom r to (valuesAt w left s at) p ≡ storeFrom r i (valuesAt w n s at₀) p₀
 
-pub store-start : (r : Row) (i : ℕ) (vs p : List ℕ) → Storing r i vs p p 0
-store-start r i vs p = record { few = omega arith; size = refl; todo = rw (add-zero) (none (storeFrom r i vs p)) }
-  where
-    none : (c : Changed) → more 0 c ≡ c
-    none c = ap (λ (k : ℕ). record { block = c .block; part = c .part; stored = k }) (omega arith)
-
-module _ (r : Row) (i : ℕ) (vs p₀ p : List ℕ) (j : ℕ) (s : Storing r i vs p₀ p j) where
-  -- all are stored
-  pub store-end : j ≡ length vs → j ≤ bufferCodes → Did (storeFrom r i vs p₀) p (record { failed = false; error = 0; stored = j })
-  store-end e few =
-      let t : more j (record { block = emptyBlock; part = p; stored = 0 }) ≡ storeFrom r i vs p₀ = rw (drop-of-length-le vs {i = j} (omega arith)) at (s .todo) in
+module _ (r : Row) (w n : ℕ) (s : List ℕ) (at₀ i : ℕ) (p₀ p : List ℕ) (at to left : ℕ) (c : Storing r w n s at₀ i p₀ p at to left) where
+  pub store-next : (x : ℕ) (m : List ℕ) → 0 < left → x ≡ numberAt w s at → m ≡ putElement r to x p → length m ≡ length p → Storing r w n s at₀ i p₀ m (at + w) (to + 1) (left - 1)
+  store-next x m h e q k =
       record {
-        block = ap (λ (c : Changed). c .block) t;
-        part = ap (λ (c : Changed). c .part) t;
-        stored = sym (add-zero j) ∙ ap (λ (c : Changed). c .stored) t;
-        few = few;
+        room = room-next w left at s h (c .room);
+        few = omega (arith, c .few);
+        size = k ∙ c .size;
+        todo = rw (q, e) (ap (λ (xs : List ℕ). storeFrom r to xs p) (sym (values-next w left s at h)) ∙ c .todo);
       }
 
-  -- the next value
-  module _ (x : ℕ) (h : j < length vs) (e : x ≡ getD vs j 0) where
-    here : storeFrom r (i + j) (drop j vs) p ≡ cond (inside r x) (oneMore (storeFrom r (i + j + 1) (drop (j + 1) vs) (putElement r (i + j) x p))) (failure 0x02 p)
-    here = rw (e, add-one j, drop-cons vs j 0 h)
+  pub store-end : left ≡ 0 → p ≡ storeFrom r i (valuesAt w n s at₀) p₀
+  store-end e = rw e at (c .todo)
 
-    pub store-next : (m : List ℕ) → inside r x ≡ true → m ≡ putElement r (i + j) x p → length m ≡ length p → Storing r i vs p₀ m (j + 1)
-    store-next m t q k =
-        let later : storeFrom r (i + j) (drop j vs) p ≡ oneMore (storeFrom r (i + j + 1) (drop (j + 1) vs) (putElement r (i + j) x p)) = here ∙ rw t in
-        record {
-          few = omega arith;
-          size = k ∙ s .size;
-          todo =
-              more-one j (storeFrom r (i + (j + 1)) (drop (j + 1) vs) m)
-              ∙ (rw (q, ← add-assoc i j 1) refl ∙ (ap (more j) (sym later) ∙ s .todo));
-        }
+-- all were tested, and so all are stored
+pub whole-stored : (r : Row) (i w n : ℕ) (s : List ℕ) (at : ℕ) (p m : List ℕ) → n ≤ bufferCodes → true ≡ allInside r (valuesAt w n s at) → m ≡ storeFrom r i (valuesAt w n s at) p
+    → Did (storeWhole r i (valuesAt w n s at) p) m (record { failed = false; error = 0; stored = n })
+whole-stored r i w n s at p m few t e = rw (← t) (record { block = refl; part = e; stored = sym (values-count w n s at); few = few })
 
-    -- the first that is outside its limits
-    pub store-stop : inside r x ≡ false → j ≤ bufferCodes → Did (storeFrom r i vs p₀) p (record { failed = true; error = 0x02; stored = j })
-    store-stop f few =
-        let t : more j (failure 0x02 p) ≡ storeFrom r i vs p₀ = ap (more j) (sym (here ∙ rw f)) ∙ s .todo in
-        record {
-          block = ap (λ (c : Changed). c .block) t;
-          part = ap (λ (c : Changed). c .part) t;
-          stored = sym (add-zero j) ∙ ap (λ (c : Changed). c .stored) t;
-          few = few;
-        }
+pub none-stored : (r : Row) (i w n : ℕ) (s : List ℕ) (at : ℕ) (p : List ℕ) (d : Done) → false ≡ allInside r (valuesAt w n s at) → d ≡ record { failed = true; error = 0x02; stored = 0 }
+    → Did (storeWhole r i (valuesAt w n s at) p) p d
+none-stored r i w n s at p d t e = rw (← t) (did-fail 0x02 p d e)

@@ -1,43 +1,43 @@
 -- What a change stored is there when it is over, where no later address names it; an address without an error stored all; what is
 -- read is there.
 use mathlib.Core.Path.{_≡_, refl, sym, ap, subst, _∙_}
-use mathlib.Core.Bool.{true, false, true≢false}
+use mathlib.Core.Bool.{true, false, _||_, or-true, true≢false, and-eq-true-iff}
 use mathlib.Core.List.{List, [], _∷_, _++_, List·Memᴰ}
-use mathlib.Core.Logic.{inl, inr}
+use mathlib.Core.Logic.{_⊎_, inl, inr}
 use Prim.Native.Nat.{ℕ, zero, suc, _+_, _-_, _*_, _^_, _≤_, _<_}
 use native.Mathlib.Omega.{arith}
-use lib.Dec.{leb}
+use lib.Dec.{eqb, leb}
 use lib.ListN.{length, getD}
+use borrow.Author.Tests.{eqb-true, eq-eqb}
+use borrow.Table.Steps.{cases}
 use Rattle.codes.specs.Code.{AllOf}
 use Rattle.blocks.specs.Block.{Block, blockLimit, changeBlockFits}
 use Rattle.blocks.specs.Response.{isError}
 use Rattle.blocks.specs.Page.{BlockFits}
 use Rattle.blocks.specs.declared.reader.Address.{Address}
 use Rattle.catalogue.specs.declared.Row.{Row}
-use Rattle.catalogue.specs.declared.Found.the-variants.{At}
-use Rattle.catalogue.specs.Table.{rows, parameterBytes, findOf, elementSize}
-use Rattle.catalogue.specs.Element.{sizeCode, inside, elementOf, putElement}
+use Rattle.catalogue.specs.Table.{rows, parameterBytes, elementSize}
+use Rattle.catalogue.specs.Element.{sizeCode, typeCode, inside, elementOf, putElement}
 use Rattle.catalogue.proofs.Elements.{element-length, element-stored}
 use Rattle.catalogue.proofs.Rows.{found-row, element-inside}
+use Rattle.access.specs.declared.Checked.the-variants.{Elements}
 use Rattle.access.specs.Read.{elementsFrom, blockSize, readBlock}
-use Rattle.access.specs.Change.{Changed, storeFrom, changeOne, changeAll}
+use Rattle.access.specs.Change.{Changed, failure, allInside, storeFrom, success, changeOne, changeAll}
 use Rattle.access.specs.Work.{worked}
-use Rattle.access.specs.Laws.{Asked, Allowed, ReadIsThere, StoredIsThere, AnsweredIsStored}
+use Rattle.access.specs.Laws.{Names, Stored, Storable, comesTo, storedOf, Allowed, ReadIsThere, StoredIsThere, WholeOrNone, AnsweredExactly, CountsStored}
 use Rattle.access.proofs.Checks.{pick}
 use Rattle.access.proofs.Lengths.{change-length}
-use Rattle.access.proofs.Answers.{Stores, change-cases}
+use Rattle.access.proofs.Failing.{passed}
+use Rattle.access.proofs.Answers.{Stores, change-cases, stored-small}
 use Rattle.access.proofs.Keeps.{Among, store-kept, all-kept}
 
--- the values of one address: each that was counted is there
+-- the values of one address: each is there
 store-there :
     (r : Row) → List·Memᴰ r rows → (i : ℕ) (xs p : List ℕ) → i + length xs ≤ r .count → parameterBytes ≤ length p
-    → AllOf (λ x. x < 256 ^ elementSize (r .kind)) xs
-    → (k : ℕ) → k < storeFrom r i xs p .stored → elementOf r (i + k) (storeFrom r i xs p .part) ≡ getD xs k 0
-store-there r m i [] p room long small k = λ h. absurd (omega arith)
-store-there r m i (x ∷ xs) p room long small k =
-    pick (λ (c : Changed). k < c .stored → elementOf r (i + k) (c .part) ≡ getD (x ∷ xs) k 0) (inside r x)
-    (λ ok. go k (λ j. store-there r m (i + 1) xs after (omega arith) kept (small .1) j))
-    (λ t h. absurd (omega arith))
+    → AllOf (λ x. x < 256 ^ elementSize (r .kind)) xs → allInside r xs ≡ true
+    → (k : ℕ) → k < length xs → elementOf r (i + k) (storeFrom r i xs p) ≡ getD xs k 0
+store-there r m i [] p room long small ok k h = absurd (omega arith)
+store-there r m i (x ∷ xs) p room long small ok k h = go k (store-there r m (i + 1) xs after (omega arith) kept (small .1) rest) (omega arith)
   where
     after : List ℕ
     after = putElement r i x p
@@ -45,49 +45,42 @@ store-there r m i (x ∷ xs) p room long small k =
     kept : parameterBytes ≤ length after
     kept = subst (λ (n : ℕ). parameterBytes ≤ n) (sym (element-length r i x p)) long
 
-    end : List ℕ
-    end = storeFrom r (i + 1) xs after .part
+    rest : allInside r xs ≡ true
+    rest = and-eq-true-iff (inside r x) (allInside r xs) .0 ok .1
 
-    first : Allowed (Among r (i + 1) (length xs)) after end r i → elementOf r i end ≡ x
+    first : Allowed (Among r (i + 1) (length xs)) after (storeFrom r (i + 1) xs after) r i → elementOf r i (storeFrom r (i + 1) xs after) ≡ x
     first (inl e) = e ∙ element-stored r i x p (omega (arith, element-inside r m i (omega arith))) (small .0)
     first (inr n) = absurd (omega (arith, n .0 .1))
 
     go :
-        (k : ℕ) → ((j : ℕ) → j < storeFrom r (i + 1) xs after .stored → elementOf r (i + 1 + j) end ≡ getD xs j 0)
-        → k < 1 + storeFrom r (i + 1) xs after .stored → elementOf r (i + k) end ≡ getD (x ∷ xs) k 0
+        (k : ℕ) → ((j : ℕ) → j < length xs → elementOf r (i + 1 + j) (storeFrom r (i + 1) xs after) ≡ getD xs j 0)
+        → k < 1 + length xs → elementOf r (i + k) (storeFrom r (i + 1) xs after) ≡ getD (x ∷ xs) k 0
     go zero more h =
         let z : i + 0 ≡ i = omega arith in
-        rw z (first (store-kept r m (i + 1) xs after (omega arith) (small .1) .elements r m i (omega arith)))
+        rw z (first (store-kept r m (i + 1) xs after (omega arith) (small .1) rest .elements r m i (omega arith)))
     go (suc j) more h =
         let z : i + suc j ≡ i + 1 + j = omega arith in
         rw z (more j (omega arith))
 
-store-few : (r : Row) (i : ℕ) (xs p : List ℕ) → storeFrom r i xs p .stored ≤ length xs
-store-few r i [] p = omega arith
-store-few r i (x ∷ xs) p =
-    pick (λ (c : Changed). c .stored ≤ length (x ∷ xs)) (inside r x)
-    (λ ok. let few = store-few r (i + 1) xs (putElement r i x p) in omega arith)
-    (λ t. omega arith)
-
--- one address with its block of values: an element that it stored is one of its row's, and is there
-module _ (a : Address) (b : Block) (g : BlockFits changeBlockFits b) (p : List ℕ) (long : parameterBytes ≤ length p)
-    (q : Row) (e : findOf (a .pnu) ≡ At q) (j : ℕ) (low : a .subindex ≤ j) where
+-- one address with its block of values, where it answers no error: an element that it names is one of its row's, and is there
+module _ (a : Address) (b : Block) (g : BlockFits changeBlockFits b) (p : List ℕ) (long : parameterBytes ≤ length p) (q : Row) (j : ℕ) (named : Names a q j) where
   There : Changed → Type 0
-  There c = j < a .subindex + c .stored → (j < q .count) × (elementOf q j (c .part) ≡ getD (b .values) (j - a .subindex) 0)
+  There c = isError (c .block) ≡ false → (j < q .count) × (elementOf q j (c .part) ≡ getD (b .values) (j - a .subindex) 0)
 
   change-there : There (changeOne a b p)
   unfolding There
-  change-there = change-cases a b p There (λ x small h. absurd (omega arith)) stores
+  change-there = change-cases a b p There (λ x small e. absurd (true≢false e)) stores
     where
-      stores : (r : Row) (n : ℕ) → Stores a b r n → There (storeFrom r (a .subindex) (b .values) p)
-      stores r n s h =
-          let same : At q ≡ At r = sym e ∙ s .named .found in
+      stores : (r : Row) (n : ℕ) → Stores a b r n → There (success r (a .subindex) (b .values) p)
+      stores r n s e =
+          let same : Elements q (named .number) ≡ Elements r n = sym (named .passed) ∙ s .passed in
           let row : q ≡ r = cc in
-          let small : AllOf (λ x. x < 256 ^ elementSize (r .kind)) (b .values) = subst (λ (w : ℕ). AllOf (λ x. x < 256 ^ w) (b .values)) (s .wide) (g .values) in
-          let few = store-few r (a .subindex) (b .values) p in
-          let place : a .subindex + (j - a .subindex) ≡ j = omega arith in
-          let there = store-there r (s .named .row) (a .subindex) (b .values) p (omega (arith, s .count, s .named .room)) long small (j - a .subindex) (omega arith) in
-          rw row (omega (arith, s .count, s .named .room), rw place at there)
+          let number : named .number ≡ n = cc in
+          let place : a .subindex + (j - a .subindex) ≡ j = omega (arith, named .low) in
+          let there =
+          store-there r (s .named .row) (a .subindex) (b .values) p (omega (arith, s .count, s .named .room)) long (stored-small a b r n s g) (s .inside) (j - a .subindex)
+          (omega (arith, number, named .low, named .high, s .count)) in
+          rw row (omega (arith, number, named .high, s .named .room), rw place at there)
 
 -- addresses and blocks, one after the other
 change-then :
@@ -107,30 +100,85 @@ pub stored-is-there : StoredIsThere
 unfolding worked There parameterBytes rows
 stored-is-there r p fits two size t q j s none =
     let mid : List ℕ = changeAll (t .earlier) (t .earlierBlocks) p .part in
-    let next : List ℕ = changeOne (t .address) (t .block) mid .part in
+    let next : List ℕ = comesTo r t p .part in
     let bs : AllOf (BlockFits changeBlockFits) (t .block ∷ t .laterBlocks) = all-after (BlockFits changeBlockFits) (t .earlierBlocks) _ (subst (AllOf (BlockFits changeBlockFits)) (t .blocks) (fits .blocks)) in
-    let here = change-there (t .address) (t .block) (bs .0) mid (omega (arith, size, change-length (t .earlier) (t .earlierBlocks) p)) q (s .found) j (s .low) (s .high) in
+    let here = change-there (t .address) (t .block) (bs .0) mid (omega (arith, size, change-length (t .earlier) (t .earlierBlocks) p)) q j (s .names) (s .answered) in
     let whole : worked r p .part ≡ changeAll (t .later) (t .laterBlocks) next .part =
     rw (two, t .addresses, t .blocks) (change-then (t .earlier) (t .address ∷ t .later) (t .earlierBlocks) (t .block ∷ t .laterBlocks) p (t .level)) in
-    ap (elementOf q j) whole ∙ go next _ (here .1) (all-kept (t .later) (t .laterBlocks) next (bs .1) .elements q (found-row _ q (s .found)) j (here .0))
+    ap (elementOf q j) whole ∙ go next _ (here .1) (all-kept (t .later) (t .laterBlocks) next (bs .1) .elements q (found-row _ q (s .names .found)) j (here .0))
   where
-    go : (mid end : List ℕ) {x : ℕ} → elementOf q j mid ≡ x → Allowed (Asked (t .later)) mid end q j → elementOf q j end ≡ x
+    go : (mid end : List ℕ) {x : ℕ} → elementOf q j mid ≡ x → Allowed (λ q j. (q .writable ≡ true) × Stored (t .later) (t .laterBlocks) (comesTo r t p .part) q j) mid end q j → elementOf q j end ≡ x
     go mid end here (inl e) = e ∙ here
-    go mid end here (inr n) = absurd (none (n .0))
+    go mid end here (inr n) = absurd (none (n .0 .1))
 
--- all values of an address are stored where it answers no error
-store-all : (r : Row) (i : ℕ) (xs p : List ℕ) → isError (storeFrom r i xs p .block) ≡ false → storeFrom r i xs p .stored ≡ length xs
-store-all r i [] p = λ e. refl
-store-all r i (x ∷ xs) p =
-    pick (λ (c : Changed). isError (c .block) ≡ false → c .stored ≡ length (x ∷ xs)) (inside r x)
-    (λ ok e. let n = store-all r (i + 1) xs (putElement r i x p) e in omega arith)
-    (λ t e. absurd (true≢false e))
+-- whole or not at all
+pub whole-or-none : WholeOrNone
+whole-or-none a b p =
+    change-cases a b p
+    (λ c. (isError (c .block) ≡ false → c .stored ≡ length (b .values)) × (isError (c .block) ≡ true → (c .stored ≡ 0) × (c .part ≡ p)))
+    (λ x small. ((λ e. absurd (true≢false e)), (λ e. (refl, refl))))
+    (λ r n s. ((λ e. refl), (λ e. absurd (true≢false (sym e)))))
 
-pub answered-is-stored : AnsweredIsStored
-answered-is-stored a b p =
-    change-cases a b p (λ c. isError (c .block) ≡ false → c .stored ≡ length (b .values))
-    (λ x small e. absurd (true≢false e))
-    (λ r n s. store-all r (a .subindex) (b .values) p)
+-- all values inside the limits, one by one and by the test
+all-limits : (r : Row) (xs : List ℕ) → allInside r xs ≡ true → AllOf (λ x. inside r x ≡ true) xs
+all-limits r [] e = tt
+all-limits r (x ∷ xs) e = let two = and-eq-true-iff (inside r x) (allInside r xs) .0 e in (two .0, all-limits r xs (two .1))
+
+limits-all : (r : Row) (xs : List ℕ) → AllOf (λ x. inside r x ≡ true) xs → allInside r xs ≡ true
+limits-all r [] h = refl
+limits-all r (x ∷ xs) h = and-eq-true-iff (inside r x) (allInside r xs) .1 (h .0, limits-all r xs (h .1))
+
+pub answered-exactly : AnsweredExactly
+unfolding changeOne
+answered-exactly a b p = (storable, answers)
+  where
+    either-format : (r : Row) → eqb (b .format) (sizeCode (r .kind)) || eqb (b .format) (typeCode (r .kind)) ≡ true → (b .format ≡ sizeCode (r .kind)) ⊎ (b .format ≡ typeCode (r .kind))
+    either-format r e =
+        cases (eqb (b .format) (sizeCode (r .kind)))
+        (λ t. inl (eqb-true (b .format) (sizeCode (r .kind)) t))
+        (λ t. inr (eqb-true (b .format) (typeCode (r .kind)) (rw t at e)))
+
+    is-either : (r : Row) → (b .format ≡ sizeCode (r .kind)) ⊎ (b .format ≡ typeCode (r .kind)) → eqb (b .format) (sizeCode (r .kind)) || eqb (b .format) (typeCode (r .kind)) ≡ true
+    is-either r (inl e) = rw (eq-eqb (b .format) (sizeCode (r .kind)) e)
+    is-either r (inr e) = rw (eq-eqb (b .format) (typeCode (r .kind)) e, or-true)
+
+    storable : isError (changeOne a b p .block) ≡ false → Storable a b
+    storable =
+        change-cases a b p (λ c. isError (c .block) ≡ false → Storable a b)
+        (λ x small e. absurd (true≢false e))
+        (λ r n s e.
+        record {
+          row = r;
+          number = n;
+          passed = s .passed;
+          writable = s .writable;
+          format = either-format r (s .format);
+          count = s .count;
+          limits = all-limits r (b .values) (s .inside);
+        })
+
+    answers : Storable a b → isError (changeOne a b p .block) ≡ false
+    answers s =
+        let r = s .row in
+        rw (s .passed)
+        (sym (ap (λ (c : Changed). isError (c .block))
+        (passed (r .writable) (eqb (b .format) (sizeCode (r .kind)) || eqb (b .format) (typeCode (r .kind))) (eqb (length (b .values)) (s .number)) (failure 0x01 p) (failure 0x05 p) (failure 0x18 p) _ (s .writable) (is-either r (s .format)) (eq-eqb (length (b .values)) (s .number) (s .count))))
+        ∙ rw (limits-all r (b .values) (s .limits)))
+
+-- the count of all addresses
+counts-all : (them : List Address) (bs : List Block) (p : List ℕ) → changeAll them bs p .stored ≡ storedOf bs (changeAll them bs p .blocks)
+counts-all [] [] p = refl
+counts-all [] (b ∷ bs) p = refl
+counts-all (a ∷ more) [] p = refl
+counts-all (a ∷ more) (b ∷ bs) p =
+    let c = changeOne a b p in
+    cases (isError (c .block))
+    (λ t. rw (t, whole-or-none a b p .1 t .0, counts-all more bs (c .part)))
+    (λ t. rw (t, whole-or-none a b p .0 t, counts-all more bs (c .part)))
+
+pub counts-stored : CountsStored
+unfolding worked
+counts-stored r p two = rw two (counts-all (r .addresses) (r .blocks) p)
 
 -- n elements in a row, from element i on
 element-there : (r : Row) (i n k : ℕ) (p : List ℕ) → k < n → getD (elementsFrom r i n p) k 0 ≡ elementOf r (i + k) p

@@ -1,5 +1,5 @@
--- Document 01, "For a change then": a change (02) worked on a part, element by element.
-use mathlib.Core.Bool.{cond, not, _||_}
+-- Document 01, "For a change then", and document 02, R-6: a change (02) worked on a part, address by address.
+use mathlib.Core.Bool.{Bool, true, cond, not, _&&_, _||_}
 use mathlib.Core.List.{List, [], _∷_}
 use Prim.Native.Nat.{ℕ, _+_}
 use lib.Dec.{eqb}
@@ -21,14 +21,22 @@ pub record Changed : Type 0 where
 abbrev pub failure : ℕ → List ℕ → Changed
 failure e p = record { block = errorBlock e; part = p; stored = 0 }
 
--- one element was stored before what follows
-abbrev pub oneMore : Changed → Changed
-oneMore c = record { block = c .block; part = c .part; stored = 1 + c .stored }
+-- "every element is within limits"
+abbrev pub allInside : Row → List ℕ → Bool
+allInside r [] = true
+allInside r (x ∷ xs) = inside r x && allInside r xs
 
--- "then element by element, outside limits 0x02, and the rest of that address is skipped. Elements stored before it stay stored"
-abbrev pub storeFrom : Row → ℕ → List ℕ → List ℕ → Changed
-storeFrom r i [] p = record { block = emptyBlock; part = p; stored = 0 }
-storeFrom r i (x ∷ xs) p = cond (inside r x) (oneMore (storeFrom r (i + 1) xs (putElement r i x p))) (failure 0x02 p)
+-- the values stored in a row's elements, from element i on
+abbrev pub storeFrom : Row → ℕ → List ℕ → List ℕ → List ℕ
+storeFrom r i [] p = p
+storeFrom r i (x ∷ xs) p = storeFrom r (i + 1) xs (putElement r i x p)
+
+abbrev pub success : Row → ℕ → List ℕ → List ℕ → Changed
+success r i xs p = record { block = emptyBlock; part = storeFrom r i xs p; stored = length xs }
+
+-- R-6: "for one address, nothing is stored unless every element is within limits; the error stays 0x02, that of the first bad element"
+abbrev pub storeWhole : Row → ℕ → List ℕ → List ℕ → Changed
+storeWhole r i xs p = cond (allInside r xs) (success r i xs p) (failure 0x02 p)
 
 -- "not writable 0x01; format neither the size code nor the type code of the parameter (U8 5, I16 3, U16 6, I32 4) 0x05; number of
 -- values not the elements 0x18"
@@ -37,7 +45,7 @@ ofElements a b p r n =
     cond (not (r .writable)) (failure 0x01 p)
     (cond (not (eqb (b .format) (sizeCode (r .kind)) || eqb (b .format) (typeCode (r .kind)))) (failure 0x05 p)
     (cond (not (eqb (length (b .values)) n)) (failure 0x18 p)
-    (storeFrom r (a .subindex) (b .values) p)))
+    (storeWhole r (a .subindex) (b .values) p)))
 
 abbrev pub ofChecked : Address → Block → List ℕ → Checked → Changed
 ofChecked a b p (Error e) = failure e p

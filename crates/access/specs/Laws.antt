@@ -1,5 +1,5 @@
 -- What callers may cite of every request that is worked on a part, whatever that part holds: from document 01, "Response block",
--- "Parameters of each axis" and "A part is well-formed", and document 02, R-4. Each is a statement here and a proof in proofs/.
+-- "Parameters of each axis" and "A part is well-formed", and document 02, R-4 and R-6. Each is a statement here and a proof in proofs/.
 use mathlib.Core.Path.{_≡_}
 use mathlib.Core.Bool.{true, false, cond, _||_}
 use mathlib.Core.List.{List, [], _∷_, _++_, List·Memᴰ}
@@ -7,7 +7,7 @@ use mathlib.Core.Logic.{_⊎_, _↔_}
 use Prim.Native.Nat.{ℕ, _+_, _-_, _≤_, _<_}
 use lib.Dec.{eqb}
 use lib.ListN.{length, getD, drop}
-use Rattle.codes.specs.Code.{readable}
+use Rattle.codes.specs.Code.{AllOf, readable}
 use Rattle.blocks.specs.Block.{Block, blockLimit}
 use Rattle.blocks.specs.Request.{Request}
 use Rattle.blocks.specs.Response.{Response, isError, hasError, response}
@@ -18,7 +18,7 @@ use Rattle.checker.specs.Laws.{Answers}
 use Rattle.catalogue.specs.declared.Row.{Row}
 use Rattle.catalogue.specs.declared.Found.the-variants.{At}
 use Rattle.catalogue.specs.Table.{rows, parameterBytes, findOf}
-use Rattle.catalogue.specs.Element.{inside, elementOf}
+use Rattle.catalogue.specs.Element.{sizeCode, typeCode, inside, elementOf}
 use Rattle.part.specs.Layout.{partSize}
 use Rattle.part.specs.WellFormed.{wellFormed}
 use Rattle.access.specs.declared.Checked.the-variants.{Elements}
@@ -98,12 +98,16 @@ pub record Names (a : Address) (q : Row) (j : ℕ) : Type 0 where
   pub low : a .subindex ≤ j
   pub high : j < a .subindex + number
 
--- one of the addresses names the element, and it is writable
-pub record Asked (them : List Address) (q : Row) (j : ℕ) : Type 0 where
-  pub address : Address
-  pub sent : List·Memᴰ address them
-  pub names : Names address q j
-  pub writable : q .writable ≡ true
+-- an address that came to c stored element j of a row: it names it, and answers no error
+pub record StoredBy (a : Address) (c : Changed) (q : Row) (j : ℕ) : Type 0 where
+  pub names : Names a q j
+  pub answered : isError (c .block) ≡ false
+
+-- one of the addresses of a change stored it, each worked on the part that those before it left
+abbrev pub Stored : List Address → List Block → List ℕ → Row → ℕ → Type 0
+Stored [] sent p q j = ⊥
+Stored (a ∷ them) [] p q j = ⊥
+Stored (a ∷ them) (b ∷ sent) p q j = let c = changeOne a b p in StoredBy a c q j ⊎ Stored them sent (c .part) q j
 
 -- an element is as it was, or it may change and lies inside its limits afterwards
 abbrev pub Allowed : (Row → ℕ → Type 0) → List ℕ → List ℕ → Row → ℕ → Type 0
@@ -116,9 +120,11 @@ pub record Kept (May : Row → ℕ → Type 0) (p after : List ℕ) : Type 0 whe
   pub beyond : drop parameterBytes after ≡ drop parameterBytes p
   pub elements : (q : Row) → List·Memᴰ q rows → (j : ℕ) → j < q .count → Allowed May p after q j
 
--- "not writable 0x01", "outside limits 0x02": only what the request names can change, and only to values inside the limits
-abbrev pub OnlyAskedChanges : Type 0
-OnlyAskedChanges = (r : Request) (p : List ℕ) → RequestFits r → Kept (Asked (r .addresses)) p (worked r p .part)
+-- "not writable 0x01", "outside limits 0x02": only what is writable and stored can change, and only to values inside the limits
+abbrev pub OnlyStoredChanges : Type 0
+OnlyStoredChanges =
+    (r : Request) (p : List ℕ) → RequestFits r
+    → Kept (λ q j. (q .writable ≡ true) × Stored (r .addresses) (r .blocks) p q j) p (worked r p .part)
 
 -- one of the addresses of a change, with its block of values, between those before it and those after it
 pub record Turn (r : Request) : Type 0 where
@@ -136,22 +142,45 @@ pub record Turn (r : Request) : Type 0 where
 abbrev pub comesTo : (r : Request) → Turn r → List ℕ → Changed
 comesTo r t p = changeOne (t .address) (t .block) (changeAll (t .earlier) (t .earlierBlocks) p .part)
 
--- it stored element j of the row q: one of its elements from its sub-index on, as many as it counts
-pub record Stored (r : Request) (t : Turn r) (p : List ℕ) (q : Row) (j : ℕ) : Type 0 where
-  pub found : findOf (t .address .pnu) ≡ At q
-  pub low : t .address .subindex ≤ j
-  pub high : j < t .address .subindex + comesTo r t p .stored
-
--- What is stored is there: an element that a change stored, and that no later address of it names, reads back as the value sent.
+-- What is stored is there: an element that an address stored, and no later one of the change did, reads back as the value sent.
 abbrev pub StoredIsThere : Type 0
 StoredIsThere =
     (r : Request) (p : List ℕ) → RequestFits r → r .identifier ≡ 2 → length p ≡ partSize
-    → (t : Turn r) (q : Row) (j : ℕ) → Stored r t p q j → (Asked (t .later) q j → ⊥)
+    → (t : Turn r) (q : Row) (j : ℕ) → StoredBy (t .address) (comesTo r t p) q j
+    → (Stored (t .later) (t .laterBlocks) (comesTo r t p .part) q j → ⊥)
     → elementOf q j (worked r p .part) ≡ getD (t .block .values) (j - t .address .subindex) 0
 
--- an address that answers no error stored every value that was sent
-abbrev pub AnsweredIsStored : Type 0
-AnsweredIsStored = (a : Address) (b : Block) (p : List ℕ) → isError (changeOne a b p .block) ≡ false → changeOne a b p .stored ≡ length (b .values)
+-- R-6, "An address is stored whole or not at all": one that answers no error counts all its values, one that answers an error counts
+-- none and leaves the part as it was.
+abbrev pub WholeOrNone : Type 0
+WholeOrNone =
+    (a : Address) (b : Block) (p : List ℕ)
+    → (isError (changeOne a b p .block) ≡ false → changeOne a b p .stored ≡ length (b .values))
+    × (isError (changeOne a b p .block) ≡ true → (changeOne a b p .stored ≡ 0) × (changeOne a b p .part ≡ p))
+
+-- an address that can be stored: it names elements of a writable parameter, and its values are of that parameter's type, as many, and
+-- "every element is within limits"
+pub record Storable (a : Address) (b : Block) : Type 0 where
+  pub row : Row
+  pub number : ℕ
+  pub passed : checked a ≡ Elements row number
+  pub writable : row .writable ≡ true
+  pub format : (b .format ≡ sizeCode (row .kind)) ⊎ (b .format ≡ typeCode (row .kind))
+  pub count : length (b .values) ≡ number
+  pub limits : AllOf (λ x. inside row x ≡ true) (b .values)
+
+-- such an address answers no error, whatever the others do, and no other does
+abbrev pub AnsweredExactly : Type 0
+AnsweredExactly = (a : Address) (b : Block) (p : List ℕ) → (isError (changeOne a b p .block) ≡ false) ↔ Storable a b
+
+-- "how many elements were stored": the values sent for the addresses that answer no error
+abbrev pub storedOf : List Block → List Block → ℕ
+storedOf [] answers = 0
+storedOf (b ∷ sent) [] = 0
+storedOf (b ∷ sent) (c ∷ answers) = cond (isError c) 0 (length (b .values)) + storedOf sent answers
+
+abbrev pub CountsStored : Type 0
+CountsStored = (r : Request) (p : List ℕ) → r .identifier ≡ 2 → worked r p .stored ≡ storedOf (r .blocks) (blocksOf r p)
 
 -- a part that is well-formed stays so when a request is worked on it
 abbrev pub RequestKeepsWellFormed : Type 0

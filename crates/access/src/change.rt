@@ -1,4 +1,4 @@
-// A change (02): values stored element by element, and the blocks that answer its addresses.
+// A change (02): addresses stored whole or not at all, and the blocks that answer them.
 ghost use mathlib.Core.Path.{_≡_};
 ghost use mathlib.Core.Bool.{true, _||_};
 ghost use Prim.Native.Nat.{_+_, _*_, _≤_};
@@ -11,9 +11,9 @@ ghost use Rattle.blocks.specs.Request.{request};
 ghost use Rattle.blocks.specs.Place.{headerOf, blockAt, walk};
 ghost use Rattle.blocks.specs.declared.BlockAt.the-variants.{Stands};
 ghost use Rattle.catalogue.specs.Element.{sizeCode, typeCode};
-ghost use Rattle.access.specs.Change.{storeFrom, ofElements, changeOne, changeAll};
+ghost use Rattle.access.specs.Change.{allInside, storeFrom, storeWhole, ofElements, changeOne, changeAll};
 ghost use Rattle.access.specs.Work.{workedChange};
-ghost use Rattle.access.specs.Walk.{blockIn, blocksIn, answerIn, Did, DidAll, Wrote, requestIn, respondedPart};
+ghost use Rattle.access.specs.Walk.{blockIn, blocksIn, valuesAt, answerIn, Did, DidAll, Wrote, requestIn, respondedPart};
 use super::Checked;
 use super::reply;
 use super::reply::Written;
@@ -24,6 +24,13 @@ use blocks::reader::Address;
 use blocks::reader::Step;
 use catalogue::Kind;
 use catalogue::Row;
+
+// Where the values of a block stand: the place of the first, the bytes of each, and how many there are.
+pub struct Values {
+    pub at: usize,
+    pub size: usize,
+    pub count: u16,
+}
 
 // What an address came to: whether it failed, with which error, and how many elements were stored.
 pub struct Done {
@@ -57,28 +64,54 @@ fn is_format(k: Kind, f: u8) -> bool
     codes::either(same_size, f == catalogue::type_code(k))
 }
 
-// Stores the n values of the block at `at` from element i on, up to the first that is outside its limits.
-fn store(part: &mut [u8], r: Row, i: u16, n: u16, block: &[u8], at: usize) -> Done
-    requires { ⌜ (i + n ≤ bufferCodes) × (length (blockIn (now block) at .values) ≡ n) ⌝ }
-    ensures { λ d. ⌜ Did (storeFrom r i (blockIn (now (block .entry)) at .values) (now (part .entry))) (now (part .exit)) d ⌝ }
+// Whether all values are inside the limits of a row.
+fn all_inside(r: Row, block: &[u8], v: Values) -> bool
+    requires { ⌜ v .at + v .count * v .size ≤ length (now block) ⌝ }
+    ensures { λ b. ⌜ b ≡ allInside r (valuesAt (v .size) (v .count) (now (block .entry)) (v .at)) ⌝ }
 {
-    let mut j: u16 = 0;
-    while j < n {
-        let x = blocks::value_at(block, at, j as usize);
+    let mut at = v.at;
+    let mut untested = v.count;
+    while 0 < untested {
+        let x = codes::number_at(block, at, v.size);
         if !catalogue::is_inside(r, x) {
-            return Done {
-                failed: true,
-                error: 0x02,
-                stored: j,
-            };
+            return false;
         }
-        catalogue::put_element(part, r, i + j, x);
-        j += 1;
+        at += v.size;
+        untested -= 1;
     }
+    true
+}
+
+// Stores the values in the elements of a row, from element i on.
+fn store(part: &mut [u8], r: Row, i: u16, block: &[u8], v: Values)
+    requires { ⌜ (i + v .count ≤ bufferCodes) × (v .at + v .count * v .size ≤ length (now block)) ⌝ }
+    ensures { λ q. ⌜ now (part .exit) ≡ storeFrom r i (valuesAt (v .size) (v .count) (now (block .entry)) (v .at)) (now (part .entry)) ⌝ }
+{
+    let mut at = v.at;
+    let mut to = i;
+    let mut left = v.count;
+    while 0 < left {
+        let x = codes::number_at(block, at, v.size);
+        catalogue::put_element(part, r, to, x);
+        at += v.size;
+        to += 1;
+        left -= 1;
+    }
+}
+
+// Stores the values so, where all are inside the limits; else none.
+fn store_whole(part: &mut [u8], r: Row, i: u16, block: &[u8], v: Values) -> Done
+    requires { ⌜ (i + v .count ≤ bufferCodes) × (v .at + v .count * v .size ≤ length (now block)) ⌝ }
+    ensures { λ d. ⌜ Did (storeWhole r i (valuesAt (v .size) (v .count) (now (block .entry)) (v .at)) (now (part .entry))) (now (part .exit)) d ⌝ }
+{
+    if !all_inside(r, block, v) {
+        return fail(0x02);
+    }
+    store(part, r, i, block, v);
     Done {
         failed: false,
         error: 0,
-        stored: n,
+        stored: v.count,
     }
 }
 
@@ -105,7 +138,12 @@ fn change_elements(
     if (h.count as u16) != n {
         return fail(0x18);
     }
-    store(part, r, a.subindex, n, block, at)
+    let v = Values {
+        at: at + 2,
+        size: catalogue::element_size(k),
+        count: n,
+    };
+    store_whole(part, r, a.subindex, block, v)
 }
 
 // One address, with its block of values.

@@ -144,7 +144,7 @@ fn fourth(label: &[u8], part: Part, a: Address) -> Part {
     work(label, part, first(&block, FIRST + 24))
 }
 
-// The worked change: mark 0 stays stored where mark 1 is outside its limits.
+// The worked change: mark 0 is not stored where mark 1 is outside its limits.
 fn marks() {
     let part = fresh();
     let part = work(
@@ -153,6 +153,21 @@ fn marks() {
         b"\x07\x02\x01\x01\x10\x02\x75\x31\x00\x00\x42\x02\x03\xE8\x0B\xB9",
     );
     read(b"all marks", part, value(4, 30001, 0));
+}
+
+// Of an address with a value outside its limits, wherever it stands, nothing is stored.
+fn whole() {
+    let all = value(4, 30001, 0);
+    let part = fresh();
+    let part = change(b"marks 10 to 40", part, all, 0x42, &[10, 20, 30, 40]);
+    let part = change(b"the first 3001", part, all, 0x42, &[3001, 2, 3, 4]);
+    let part = change(b"the third 3001", part, all, 0x42, &[1, 2, 3001, 4]);
+    let part = change(b"the last 3001", part, all, 0x42, &[1, 2, 3, 3001]);
+    let part = read(b"all marks", part, all);
+    let offsets = value(2, 30004, 0);
+    let part = change(b"offsets 1 and 2", part, offsets, 0x43, &[1, 2]);
+    let part = change(b"offsets 3 and 100001", part, offsets, 0x43, &[3, 100001]);
+    read(b"both offsets", part, offsets);
 }
 
 fn limits() {
@@ -312,6 +327,7 @@ fn refusals() {
 
 fn main() {
     marks();
+    whole();
     limits();
     offsets();
     lengths();

@@ -93,7 +93,7 @@ module _ (s : List ℕ) (size : length s ≡ stationSize) where
   calls-9 : length nine ≡ 9
   calls-9 = refl
 
-  counts-1 : farmCounts 1 counted ≡ 1 ∷ 1 ∷ 1 ∷ 1 ∷ 0 ∷ 0 ∷ 1 ∷ 0 ∷ 0 ∷ 1 ∷ []
+  counts-1 : farmCounts 1 counted ≡ 1 ∷ 1 ∷ 1 ∷ 1 ∷ 0 ∷ 0 ∷ 1 ∷ 0 ∷ 0 ∷ 0 ∷ []
   unfolding window
   counts-1 = ap (λ (c : Season). farmCounts 1 (c .totals)) (worked-season s size)
 

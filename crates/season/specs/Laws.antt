@@ -99,7 +99,7 @@ WorkedSeason =
     (s : List ℕ) → length s ≡ stationSize
     → count (history (map (λ w. w .call) workedCalls) (freshStation s)) (replicate (farms * 10) 0)
     ≡ record {
-      totals = (1 ∷ 1 ∷ 1 ∷ 1 ∷ 0 ∷ 0 ∷ 1 ∷ 0 ∷ 0 ∷ 1 ∷ []) ++ (0 ∷ 0 ∷ 0 ∷ 0 ∷ 0 ∷ 0 ∷ 0 ∷ 0 ∷ 1 ∷ 0 ∷ []) ++ replicate 140 0;
+      totals = (1 ∷ 1 ∷ 1 ∷ 1 ∷ 0 ∷ 0 ∷ 1 ∷ 0 ∷ 0 ∷ 0 ∷ []) ++ (0 ∷ 0 ∷ 0 ∷ 0 ∷ 0 ∷ 0 ∷ 0 ∷ 0 ∷ 1 ∷ 0 ∷ []) ++ replicate 140 0;
       last = Counted;
     }
 

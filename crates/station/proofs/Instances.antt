@@ -33,7 +33,7 @@ use Rattle.station.specs.Cycle.{Sent, SentFits, inputOf, cycleRefusal, c
 use Rattle.station.specs.Runs.{callsBy, answersTo, SameSeen, runAnswers, runEnd}
 use Rattle.station.specs.Isolation.{Isolated, answer, after, machine}
 use Rattle.station.specs.Calls.{Call, cycle, frame, exchange, frameBy, toFrame, numberIn, owner, kinds}
-use Rattle.station.specs.Worked.{marksFrame, fetchFrame, workedCalls, mergedCalls, endedPart}
+use Rattle.station.specs.Worked.{marksFrame, fetchFrame, workedCalls, mergedCalls, wholeCalls, endedPart}
 use Rattle.station.specs.Laws.{Refuses, WellFormedStation, AtRest, replied, Responded}
 use Rattle.station.proofs.Owes.{isolated-station, keeps-size, keeps-others}
 use Rattle.station.proofs.Cycles.{tells-what-it-did}
@@ -41,7 +41,7 @@ use Rattle.station.proofs.Outcome.{block-numbered}
 use Rattle.station.proofs.Refusals.{numbered-by-table, is-refused, empty-reply, reply-stands, foreign-axis, unreadable-block}
 use Rattle.station.proofs.Stays.{fresh-parts, never-ill-formed}
 use Rattle.station.proofs.Sends.{waits-as-ruled, sends-waiting}
-use Rattle.station.proofs.Worked.{worked-by-hand, merged-by-hand}
+use Rattle.station.proofs.Worked.{worked-by-hand, merged-by-hand, whole-by-hand}
 use Rattle.station.proofs.Responds.{responds-as-ruled, fetch-follows}
 use Rattle.station.proofs.Merged.{in-turn, write-alone, read-as-none, merges-as-ruled}
 use Rattle.station.proofs.Past.{past-stays}
@@ -138,8 +138,15 @@ module _ (s : List ℕ) (size : length s ≡ stationSize) where
   -- MergedByHand: four merged calls
   merged-by-hand-too :
       (length mergedCalls ≡ 4) × (runAnswers (machine kinds) (map (λ w. w .call) mergedCalls) (freshStation s) ≡ map (λ w. w .answer) mergedCalls)
-      × (partOf 1 (runEnd (machine kinds) (map (λ w. w .call) mergedCalls) (freshStation s)) ≡ put freshPart (offsetOf 30001) (0x03 ∷ 0xE8 ∷ []))
+      × (partOf 1 (runEnd (machine kinds) (map (λ w. w .call) mergedCalls) (freshStation s)) ≡ freshPart)
   merged-by-hand-too = let w = merged-by-hand s size in (refl, w .0, w .1)
+
+  -- WholeByHand: two changes
+  whole-by-hand-too :
+      (length wholeCalls ≡ 2) × (runAnswers (machine kinds) (map (λ w. w .call) wholeCalls) (freshStation s) ≡ map (λ w. w .answer) wholeCalls)
+      × (partOf 1 (runEnd (machine kinds) (map (λ w. w .call) wholeCalls) (freshStation s))
+      ≡ put (put freshPart (offsetOf 9900) (0x00 ∷ 0x07 ∷ [])) (offsetOf 30001) (0x00 ∷ 0x01 ∷ 0x00 ∷ 0x02 ∷ 0x0B ∷ 0xB8 ∷ 0x01 ∷ 0xF4 ∷ []))
+  whole-by-hand-too = let w = whole-by-hand s size in (refl, w .0, w .1)
 
 -- Refused and NumberedByTable: an axis that there is not
 nobody : (i : Sent) (s : List ℕ) → Refuses (cycle 17 i) s

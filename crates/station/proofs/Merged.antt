@@ -17,7 +17,7 @@ use Rattle.part.specs.Layout.{partSize, waitingLength, withResponse}
 use Rattle.part.proofs.Laws.{response-again}
 use Rattle.access.specs.Work.{worked, Outcome}
 use Rattle.access.proofs.Answers.{answer-short}
-use Rattle.access.proofs.Keeps.{only-asked-changes}
+use Rattle.access.proofs.Keeps.{only-stored-changes}
 use Rattle.station.specs.declared.Framed.{Framed}
 use Rattle.station.specs.Parts.{partOf, withPart, stationRefusal}
 use Rattle.station.specs.Frame.{function, isWrite, isRead, frameRefusal, frameAnswer, frameReply, framePart}
@@ -171,7 +171,7 @@ merges-as-ruled k r s m rest fit short mine room =
     let wrote = was-done (frame k (writeOf r) m) s (ap numberIn (two .acknowledged)) in
     let sent = was-done (frame k fetchAll after-write) t (ap numberIn (two .answered)) in
     let written = own kinds sized (frame k (writeOf r) m) s (wrote .0) ∙ wrote-part k r m p fit short mine (wrote .1) in
-    let size : length (worked r p .part) ≡ partSize = only-asked-changes r p fit .size ∙ length-window ((k - 1) * partSize) partSize s (fits (wrote .0)) in
+    let size : length (worked r p .part) ≡ partSize = only-stored-changes r p fit .size ∙ length-window ((k - 1) * partSize) partSize s (fits (wrote .0)) in
     let fitting : length (response .write (worked r p .response)) ≤ blockLimit =
     subst (λ (l : List ℕ). length l ≤ blockLimit) (sym (response-bytes (worked r p .response))) (answer-short r p fit) in
     record {

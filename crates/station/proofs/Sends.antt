@@ -20,7 +20,7 @@ use Rattle.part.proofs.Rule.{form-of}
 use Rattle.part.proofs.Laws.{waiting-is-given}
 use Rattle.access.specs.Work.{worked, Outcome, outcomeOf}
 use Rattle.access.proofs.Answers.{answer-readable}
-use Rattle.access.proofs.Keeps.{only-asked-changes}
+use Rattle.access.proofs.Keeps.{only-stored-changes}
 use Rattle.station.specs.Frame.{isWrite, isRead, frameReply}
 use Rattle.station.specs.Laws.{WaitsAsRuled, SendsWaiting}
 use Rattle.station.proofs.Judged.{done-passes}
@@ -38,7 +38,7 @@ waits-as-ruled k s p r h a e x =
     let bs = response .write (worked r p .response) in
     let good : readable blockLimit response bs ≡ true = answer-readable r p fits in
     let short : length bs ≤ blockLimit = responses .exact bs .0 good .0 in
-    let is : waiting (outcomeOf k s p .part) ≡ bs = ap (λ (o : Outcome). waiting (o .part)) (taken-is k s p r a e x) ∙ waiting-is-given bs (worked r p .part) (only-asked-changes r p fits .size ∙ h) short in
+    let is : waiting (outcomeOf k s p .part) ≡ bs = ap (λ (o : Outcome). waiting (o .part)) (taken-is k s p r a e x) ∙ waiting-is-given bs (worked r p .part) (only-stored-changes r p fits .size ∙ h) short in
     (is, ap (readable blockLimit response) is ∙ good)
 
 -- a read in its turn: something waits

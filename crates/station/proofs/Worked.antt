@@ -1,4 +1,4 @@
--- P1 to P8, and frames of these as merged calls, answer and end as the documents say: one statement over each list of them.
+-- P1 to P8, frames of these as merged calls, and changes that store answer and end as the documents say: one statement over each list.
 use mathlib.Core.Path.{_≡_, refl, ap, _∙_}
 use mathlib.Core.List.{List, [], _∷_, map}
 use Prim.Native.Nat.{ℕ, _+_, _-_, _*_, _≤_}
@@ -13,7 +13,6 @@ use Rattle.blocks.specs.Response.{responseBlocks, hasError, errorsFit, response
 use Rattle.drive.specs.Cycle.{wordOf, wordUsed, setpointUsed, acknowledges, afterAck, afterCode, stateAfter, effectiveOf, nearOf, fastOf, statusOf, entersS4, cycleOf}
 use Rattle.catalogue.specs.Table.{rows, parameterBytes, findOf, offsetOf}
 use Rattle.catalogue.specs.Element.{inside, elementOf, putElement}
-use Rattle.codes.proofs.Put.{put-length}
 use Rattle.part.specs.Layout.{partSize, withResponse}
 use Rattle.part.proofs.Laws.{fresh-length}
 use Rattle.part.specs.Record.{stateOf, wordsAt, driveOf, putDrive}
@@ -30,7 +29,7 @@ use Rattle.station.specs.Cycle.{cycleRefusal, cycleAnswer, cyclePart}
 use Rattle.station.specs.Runs.{runAnswers, runEnd}
 use Rattle.station.specs.Isolation.{answer, after, machine}
 use Rattle.station.specs.Calls.{Call, kinds}
-use Rattle.station.specs.Worked.{workedCalls, mergedCalls, drivenPart, endedPart, WorkedByHand, MergedByHand}
+use Rattle.station.specs.Worked.{workedCalls, mergedCalls, wholeCalls, endedPart, WorkedByHand, MergedByHand, WholeByHand}
 use Rattle.station.proofs.Isolation.{ends}
 use Rattle.station.proofs.Windows.{length-with, window-same, window-after}
 use Rattle.station.proofs.CycleOwes.{drive-length}
@@ -47,12 +46,12 @@ end-computed : runEnd (machine kinds) calls (freshParts farms) ≡ withPart 1 en
 unfolding readable numberAt put formatSize valueSize changeBlockFits responseBlockFits valuesOf valuesSize block address requestBlocks request responseBlocks hasError errorsFit response wordOf wordUsed setpointUsed acknowledges afterAck afterCode stateAfter effectiveOf nearOf fastOf statusOf entersS4 cycleOf rows parameterBytes findOf offsetOf inside elementOf putElement withResponse stateOf driveOf putDrive freshPart limitsFit fixedFit waitingFits unusedFit wellFormed checked readBlock changeOne worked outcomeOf window withWindow stationRefusal frameRefusal frameAnswer frameReply framePart cycleRefusal cycleAnswer cyclePart runEnd answer after
 end-computed = refl
 
-marks-computed : wordsAt 4 endedPart (offsetOf 30001) ≡ 1000 ∷ 0 ∷ 0 ∷ 0 ∷ []
+marks-computed : wordsAt 4 endedPart (offsetOf 30001) ≡ 0 ∷ 0 ∷ 0 ∷ 0 ∷ []
 unfolding rows parameterBytes findOf offsetOf elementOf putElement numberAt put putDrive freshPart
 marks-computed = refl
 
 ended-length : length endedPart ≡ partSize
-ended-length = put-length drivenPart (offsetOf 30001) (0x03 ∷ 0xE8 ∷ []) ∙ (drive-length _ freshPart ∙ fresh-length)
+ended-length = drive-length _ freshPart ∙ fresh-length
 
 -- a part of 16 fresh ones ends inside them
 ends-within : (k : ℕ) → 1 ≤ k → k ≤ farms → (k - 1) * partSize + partSize ≤ length (freshParts farms)
@@ -82,10 +81,25 @@ merged-computed : runAnswers (machine kinds) merged (freshParts farms) ≡ map (
 unfolding readable numberAt put formatSize valueSize changeBlockFits responseBlockFits valuesOf valuesSize block address requestBlocks request responseBlocks hasError errorsFit response wordOf wordUsed setpointUsed acknowledges afterAck afterCode stateAfter effectiveOf nearOf fastOf statusOf entersS4 cycleOf rows parameterBytes findOf offsetOf inside elementOf putElement withResponse stateOf driveOf putDrive freshPart limitsFit fixedFit waitingFits unusedFit wellFormed checked readBlock changeOne worked outcomeOf window withWindow stationRefusal frameRefusal frameAnswer frameReply framePart cycleRefusal cycleAnswer cyclePart exchangeDone runAnswers answer after
 merged-computed = refl
 
-merged-end : partOf 1 (runEnd (machine kinds) merged (freshParts farms)) ≡ put freshPart (offsetOf 30001) (0x03 ∷ 0xE8 ∷ [])
+merged-end : partOf 1 (runEnd (machine kinds) merged (freshParts farms)) ≡ freshPart
 unfolding readable numberAt put formatSize valueSize changeBlockFits responseBlockFits valuesOf valuesSize block address requestBlocks request responseBlocks hasError errorsFit response wordOf wordUsed setpointUsed acknowledges afterAck afterCode stateAfter effectiveOf nearOf fastOf statusOf entersS4 cycleOf rows parameterBytes findOf offsetOf inside elementOf putElement withResponse stateOf driveOf putDrive freshPart limitsFit fixedFit waitingFits unusedFit wellFormed checked readBlock changeOne worked outcomeOf window withWindow stationRefusal frameRefusal frameAnswer frameReply framePart cycleRefusal cycleAnswer cyclePart exchangeDone runEnd answer after
 merged-end = refl
 
 pub merged-by-hand : MergedByHand
 merged-by-hand s h =
     (ap (runAnswers (machine kinds) merged) (made s h) ∙ merged-computed, ap (λ (l : List ℕ). partOf 1 (runEnd (machine kinds) merged l)) (made s h) ∙ merged-end)
+
+abbrev wholes : List Call
+wholes = map (λ w. w .call) wholeCalls
+
+wholes-computed : runAnswers (machine kinds) wholes (freshParts farms) ≡ map (λ w. w .answer) wholeCalls
+unfolding readable numberAt put formatSize valueSize changeBlockFits responseBlockFits valuesOf valuesSize block address requestBlocks request responseBlocks hasError errorsFit response wordOf wordUsed setpointUsed acknowledges afterAck afterCode stateAfter effectiveOf nearOf fastOf statusOf entersS4 cycleOf rows parameterBytes findOf offsetOf inside elementOf putElement withResponse stateOf driveOf putDrive freshPart limitsFit fixedFit waitingFits unusedFit wellFormed checked readBlock changeOne worked outcomeOf window withWindow stationRefusal frameRefusal frameAnswer frameReply framePart cycleRefusal cycleAnswer cyclePart exchangeDone runAnswers answer after
+wholes-computed = refl
+
+wholes-end : partOf 1 (runEnd (machine kinds) wholes (freshParts farms)) ≡ put (put freshPart (offsetOf 9900) (0x00 ∷ 0x07 ∷ [])) (offsetOf 30001) (0x00 ∷ 0x01 ∷ 0x00 ∷ 0x02 ∷ 0x0B ∷ 0xB8 ∷ 0x01 ∷ 0xF4 ∷ [])
+unfolding readable numberAt put formatSize valueSize changeBlockFits responseBlockFits valuesOf valuesSize block address requestBlocks request responseBlocks hasError errorsFit response wordOf wordUsed setpointUsed acknowledges afterAck afterCode stateAfter effectiveOf nearOf fastOf statusOf entersS4 cycleOf rows parameterBytes findOf offsetOf inside elementOf putElement withResponse stateOf driveOf putDrive freshPart limitsFit fixedFit waitingFits unusedFit wellFormed checked readBlock changeOne worked outcomeOf window withWindow stationRefusal frameRefusal frameAnswer frameReply framePart cycleRefusal cycleAnswer cyclePart exchangeDone runEnd answer after
+wholes-end = refl
+
+pub whole-by-hand : WholeByHand
+whole-by-hand s h =
+    (ap (runAnswers (machine kinds) wholes) (made s h) ∙ wholes-computed, ap (λ (l : List ℕ). partOf 1 (runEnd (machine kinds) wholes l)) (made s h) ∙ wholes-end)

@@ -1,5 +1,5 @@
 -- Document 01, "Journal program" and "Worked by hand": P1 to P8, the calls on a fresh station in order, what each answers, and how
--- the station ends; and frames of these as merged calls (document 02, R-3).
+-- the station ends, where R-6 of document 02 changes P5; frames of these as merged calls (R-3); and changes that store (R-6).
 use mathlib.Core.Path.{_≡_}
 use mathlib.Core.Bool.{Bool, true, false}
 use mathlib.Core.List.{List, [], _∷_, _++_, map}
@@ -63,14 +63,15 @@ abbrev pub readsReply : List ℕ
 readsReply =
     0x5E ∷ 0x00 ∷ 0x2F ∷ 206 ∷ 0x08 ∷ 0x81 ∷ 0x01 ∷ 0x04 ∷ empty947 ++ empty947 ++ empty947 ++ (0x44 ∷ 0x01 ∷ 0x00 ∷ 0x15 ∷ [])
 
--- the four cycles (P1 to P4), the two frames of farm 1 (P5, P6), the denied frame (P7), and the four reads with their fetch (P8)
+-- the four cycles (P1 to P4), the two frames of farm 1 (P5, P6), the denied frame (P7), and the four reads with their fetch (P8); by
+-- R-6, "The worked frame now reports 0 stored, not 1, mark 0 stays 0"
 abbrev pub workedCalls : List WorkedCall
 workedCalls =
     cycleExample 0x047E 0 2 0x0331 0 false
     ∷ cycleExample 0x047F 0 3 0x0333 0 false
     ∷ cycleExample 0x047F 0x2000 4 0x0237 750 true
     ∷ cycleExample 0x047D 0 1 0x0360 0 false
-    ∷ frameExample 1 marksFrame 1 (0x5F ∷ 0x00 ∷ 0x2F ∷ 0x10 ∷ []) 0
+    ∷ frameExample 1 marksFrame 0 (0x5F ∷ 0x00 ∷ 0x2F ∷ 0x10 ∷ []) 0
     ∷ frameExample 1 fetchFrame 0 (0x5E ∷ 0x00 ∷ 0x2F ∷ 0x08 ∷ 0x07 ∷ 0x82 ∷ 0x01 ∷ 0x01 ∷ 0x44 ∷ 0x01 ∷ 0x00 ∷ 0x02 ∷ []) 0
     ∷ frameExample 2 marksFrame 0 (0xDF ∷ 0x80 ∷ 0xB6 ∷ 0x00 ∷ []) 11
     ∷ frameExample 1 readsFrame 0 (0x5F ∷ 0x00 ∷ 0x2F ∷ 0x1C ∷ []) 0
@@ -84,15 +85,15 @@ exchangeExample farm f stored reply number =
 
 abbrev pub mergedCalls : List WorkedCall
 mergedCalls =
-    exchangeExample 1 marksFrame 1 (0x5E ∷ 0x00 ∷ 0x2F ∷ 0x08 ∷ 0x07 ∷ 0x82 ∷ 0x01 ∷ 0x01 ∷ 0x44 ∷ 0x01 ∷ 0x00 ∷ 0x02 ∷ []) 0
+    exchangeExample 1 marksFrame 0 (0x5E ∷ 0x00 ∷ 0x2F ∷ 0x08 ∷ 0x07 ∷ 0x82 ∷ 0x01 ∷ 0x01 ∷ 0x44 ∷ 0x01 ∷ 0x00 ∷ 0x02 ∷ []) 0
     ∷ exchangeExample 2 marksFrame 0 (0xDF ∷ 0x80 ∷ 0xB6 ∷ 0x00 ∷ []) 11
     ∷ exchangeExample 1 fetchFrame 0 [] 4
     ∷ exchangeExample 1 readsFrame 0 readsReply 0
     ∷ []
 
--- farm 1's part when 01's calls are over: fresh, but for what the four cycles left in its drive record, and for mark 0, 1000
-abbrev pub drivenPart : List ℕ
-drivenPart =
+-- farm 1's part when 01's calls are over: fresh, but for what the four cycles left in its drive record
+abbrev pub endedPart : List ℕ
+endedPart =
     putDrive
     (record {
       state = S1;
@@ -105,14 +106,11 @@ drivenPart =
     })
     freshPart
 
-abbrev pub endedPart : List ℕ
-endedPart = put drivenPart (offsetOf 30001) (0x03 ∷ 0xE8 ∷ [])
-
 -- what is answered, and how the station ends
 pub record Ends (answers : List Answer) (end : List ℕ) : Type 0 where
   pub answered : answers ≡ map (λ w. w .answer) workedCalls
   pub size : length end ≡ stationSize
-  pub marks : wordsAt 4 (partOf 1 end) (offsetOf 30001) ≡ 1000 ∷ 0 ∷ 0 ∷ 0 ∷ []
+  pub marks : wordsAt 4 (partOf 1 end) (offsetOf 30001) ≡ 0 ∷ 0 ∷ 0 ∷ 0 ∷ []
   pub first : partOf 1 end ≡ endedPart
   pub others : (k : ℕ) → 2 ≤ k → k ≤ farms → partOf k end ≡ freshPart
 
@@ -123,10 +121,39 @@ WorkedByHand =
     → let calls = map (λ w. w .call) workedCalls in
     Ends (runAnswers (machine kinds) calls (freshStation s)) (runEnd (machine kinds) calls (freshStation s))
 
--- of the merged calls: what they answer, and that farm 1's part is then fresh but for mark 0
+-- of the merged calls: what they answer, and that farm 1's part is then fresh
 abbrev pub MergedByHand : Type 0
 MergedByHand =
     (s : List ℕ) → length s ≡ stationSize
     → let calls = map (λ w. w .call) mergedCalls in
     (runAnswers (machine kinds) calls (freshStation s) ≡ map (λ w. w .answer) mergedCalls)
-    × (partOf 1 (runEnd (machine kinds) calls (freshStation s)) ≡ put freshPart (offsetOf 30001) (0x03 ∷ 0xE8 ∷ []))
+    × (partOf 1 (runEnd (machine kinds) calls (freshStation s)) ≡ freshPart)
+
+-- R-6, all four marks inside their limits: 1000, 2000, 3000 and 500
+abbrev pub allFrame : List ℕ
+allFrame =
+    0x5F ∷ 0x00 ∷ 0x2F ∷ 0x14 ∷ 0x09 ∷ 0x02 ∷ 0x01 ∷ 0x01 ∷ 0x10 ∷ 0x04 ∷ 0x75 ∷ 0x31 ∷ 0x00 ∷ 0x00
+    ∷ 0x42 ∷ 0x04 ∷ 0x03 ∷ 0xE8 ∷ 0x07 ∷ 0xD0 ∷ 0x0B ∷ 0xB8 ∷ 0x01 ∷ 0xF4 ∷ []
+
+-- then three addresses: marks 0 and 1 of 1 and 2, marks 2 and 3 of 3 and 3001, and 9900 of 7
+abbrev pub threeFrame : List ℕ
+threeFrame =
+    0x5F ∷ 0x00 ∷ 0x2F ∷ 0x26 ∷ 0x0A ∷ 0x02 ∷ 0x01 ∷ 0x03 ∷ 0x10 ∷ 0x02 ∷ 0x75 ∷ 0x31 ∷ 0x00 ∷ 0x00
+    ∷ 0x10 ∷ 0x02 ∷ 0x75 ∷ 0x31 ∷ 0x00 ∷ 0x02 ∷ 0x10 ∷ 0x01 ∷ 0x26 ∷ 0xAC ∷ 0x00 ∷ 0x00
+    ∷ 0x42 ∷ 0x02 ∷ 0x00 ∷ 0x01 ∷ 0x00 ∷ 0x02 ∷ 0x42 ∷ 0x02 ∷ 0x00 ∷ 0x03 ∷ 0x0B ∷ 0xB9 ∷ 0x42 ∷ 0x01 ∷ 0x00 ∷ 0x07 ∷ []
+
+abbrev pub wholeCalls : List WorkedCall
+wholeCalls =
+    exchangeExample 1 allFrame 4 (0x5E ∷ 0x00 ∷ 0x2F ∷ 0x04 ∷ 0x09 ∷ 0x02 ∷ 0x01 ∷ 0x01 ∷ []) 0
+    ∷ exchangeExample 1 threeFrame 3
+    (0x5E ∷ 0x00 ∷ 0x2F ∷ 0x0C ∷ 0x0A ∷ 0x82 ∷ 0x01 ∷ 0x03 ∷ 0x40 ∷ 0x00 ∷ 0x44 ∷ 0x01 ∷ 0x00 ∷ 0x02 ∷ 0x40 ∷ 0x00 ∷ []) 0
+    ∷ []
+
+-- of these: what they answer, and that farm 1's part is then fresh but for 9900, of 7, and the marks, of 1, 2, 3000 and 500
+abbrev pub WholeByHand : Type 0
+WholeByHand =
+    (s : List ℕ) → length s ≡ stationSize
+    → let calls = map (λ w. w .call) wholeCalls in
+    (runAnswers (machine kinds) calls (freshStation s) ≡ map (λ w. w .answer) wholeCalls)
+    × (partOf 1 (runEnd (machine kinds) calls (freshStation s))
+    ≡ put (put freshPart (offsetOf 9900) (0x00 ∷ 0x07 ∷ [])) (offsetOf 30001) (0x00 ∷ 0x01 ∷ 0x00 ∷ 0x02 ∷ 0x0B ∷ 0xB8 ∷ 0x01 ∷ 0xF4 ∷ []))
