@@ -154,8 +154,11 @@ fn work_change(part: &mut Axis, request: &Request) -> (Waiting, u16) {
     let mut response = start_response(request, 0x02);
     let mut stored = 0;
     for (address, values) in request.addresses().zip(request.values()) {
-        match parameter::change(part, &address, &values, &mut stored) {
-            Ok(()) => append(&mut response, &[FORMAT_ZERO, 0]),
+        match parameter::change(part, &address, &values) {
+            Ok(elements) => {
+                stored += elements;
+                append(&mut response, &[FORMAT_ZERO, 0]);
+            }
             Err(error) => append_error(&mut response, error),
         }
     }

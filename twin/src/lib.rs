@@ -1,6 +1,7 @@
-//! An independent twin of the station of document 01 (`01-scope.md`) and of of document 02
-//! (`02-change-requests.md`), the season report, the fill byte, the call that sends and fetches in one and the checker of
-//! responses, as `docs/DECISIONS.md` reads them.
+//! An independent twin of the station of document 01 (`01-scope.md`) and of of document 02
+//! (`02-change-requests.md`), the season report, the fill byte, the call that sends and fetches in one, the checker of
+//! responses and the address that is stored whole or not at all, as `docs/DECISIONS.md` reads them. R-5 changes nothing
+//! that can be seen.
 //!
 //! It exists to be compared with another implementation, so it is plain: every rule of the paper stands in one
 //! small function, and every field is public for a harness to set and compare.

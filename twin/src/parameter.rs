@@ -248,8 +248,8 @@ pub(crate) fn read(part: &Axis, address: &Address, room: &mut [u8]) -> Result<us
     Ok(length)
 }
 
-/// Works one address of a change; `stored` grows by the elements stored, also where an error follows.
-pub(crate) fn change(part: &mut Axis, address: &Address, values: &Values, stored: &mut u16) -> Result<(), u8> {
+/// Works one address of a change and answers how many elements it stored: all of them, or with an error none.
+pub(crate) fn change(part: &mut Axis, address: &Address, values: &Values) -> Result<u16, u8> {
     let Target { parameter, first, elements } = locate(address)?;
     let (low, high) = parameter.limits().ok_or(error::READ_ONLY)?;
     let kind = parameter.kind();
@@ -259,13 +259,13 @@ pub(crate) fn change(part: &mut Axis, address: &Address, values: &Values, stored
     if usize::from(values.count) != elements {
         return Err(error::COUNT);
     }
-    for (i, bytes) in values.bytes.chunks_exact(kind.size()).enumerate() {
-        let value = kind.decode(bytes);
-        if value < low || value > high {
-            return Err(error::LIMITS);
-        }
-        parameter.store(part, first + i, value);
-        *stored += 1;
+    let decoded = values.bytes.chunks_exact(kind.size()).map(|bytes| kind.decode(bytes));
+    // R-6 of document 02: every value is tested before the first is stored.
+    if !decoded.clone().all(|value| (low..=high).contains(&value)) {
+        return Err(error::LIMITS);
     }
-    Ok(())
+    for (element, value) in (first..).zip(decoded) {
+        parameter.store(part, element, value);
+    }
+    Ok(u16::from(values.count))
 }

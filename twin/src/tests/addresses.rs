@@ -12,14 +12,14 @@ fn read_error(address: &str) -> u8 {
     response[7]
 }
 
-/// The error of one changed address, and the elements stored before it.
-fn change_error(address: &str, values: &str) -> (u8, u16) {
+/// The error of one changed address, which stores nothing.
+fn change_error(address: &str, values: &str) -> u8 {
     let mut station = Station::fresh();
     let (stored, response) = write_and_fetch(&mut station, 1, &change(1, 1, &[(address, values)]));
-    assert_eq!(&response[..7], &hex("01 82 01 01 44 01 00")[..], "{address} {values}");
+    assert_eq!((stored, &response[..7]), (0, &hex("01 82 01 01 44 01 00")[..]), "{address} {values}");
     assert_eq!(response.len(), 8);
-    assert!(stored != 0 || station == Station::fresh());
-    (response[7], stored)
+    assert!(station == Station::fresh());
+    response[7]
 }
 
 /// The part after a change that must succeed, and its stored count.
@@ -60,39 +60,39 @@ fn order_of_read_errors() {
 
 #[test]
 fn every_change_error() {
-    assert_eq!(change_error("10 01 00 00 00 00", "42 01 00 00"), (0x00, 0));
-    assert_eq!(change_error("20 01 75 32 00 00", "42 01 00 00"), (0x09, 0));
-    assert_eq!(change_error("30 01 75 32 00 00", "42 01 00 00"), (0x0F, 0));
-    assert_eq!(change_error("12 01 75 32 00 00", "42 01 00 00"), (0x16, 0));
-    assert_eq!(change_error("10 01 75 32 00 01", "42 01 00 00"), (0x04, 0));
-    assert_eq!(change_error("10 02 75 32 00 00", "42 02 00 00 00 00"), (0x04, 0));
-    assert_eq!(change_error("10 00 75 31 00 00", "42 00"), (0x16, 0));
-    assert_eq!(change_error("10 02 75 31 00 03", "42 02 00 00 00 00"), (0x03, 0));
-    assert_eq!(change_error("10 01 03 A2 00 00", "42 01 00 01"), (0x01, 0));
-    assert_eq!(change_error("10 01 75 32 00 00", "43 01 00 00 00 00"), (0x05, 0));
-    assert_eq!(change_error("10 02 75 31 00 00", "42 01 00 00"), (0x18, 0));
-    assert_eq!(change_error("10 02 75 31 00 00", "42 03 00 00 00 00 00 00"), (0x18, 0));
-    assert_eq!(change_error("10 01 75 31 00 00", "42 01 0B B9"), (0x02, 0));
+    assert_eq!(change_error("10 01 00 00 00 00", "42 01 00 00"), 0x00);
+    assert_eq!(change_error("20 01 75 32 00 00", "42 01 00 00"), 0x09);
+    assert_eq!(change_error("30 01 75 32 00 00", "42 01 00 00"), 0x0F);
+    assert_eq!(change_error("12 01 75 32 00 00", "42 01 00 00"), 0x16);
+    assert_eq!(change_error("10 01 75 32 00 01", "42 01 00 00"), 0x04);
+    assert_eq!(change_error("10 02 75 32 00 00", "42 02 00 00 00 00"), 0x04);
+    assert_eq!(change_error("10 00 75 31 00 00", "42 00"), 0x16);
+    assert_eq!(change_error("10 02 75 31 00 03", "42 02 00 00 00 00"), 0x03);
+    assert_eq!(change_error("10 01 03 A2 00 00", "42 01 00 01"), 0x01);
+    assert_eq!(change_error("10 01 75 32 00 00", "43 01 00 00 00 00"), 0x05);
+    assert_eq!(change_error("10 02 75 31 00 00", "42 01 00 00"), 0x18);
+    assert_eq!(change_error("10 02 75 31 00 00", "42 03 00 00 00 00 00 00"), 0x18);
+    assert_eq!(change_error("10 01 75 31 00 00", "42 01 0B B9"), 0x02);
 }
 
 #[test]
 fn order_of_change_errors() {
-    assert_eq!(change_error("10 01 03 A2 00 00", "43 02 00 00 00 00 00 00 00 00"), (0x01, 0), "0x01 before 0x05");
-    assert_eq!(change_error("10 03 03 C5 00 00", "43 00"), (0x03, 0), "0x03 before 0x01");
-    assert_eq!(change_error("10 01 75 31 00 00", "41 02 FF FF"), (0x05, 0), "0x05 before 0x18");
-    assert_eq!(change_error("10 01 75 31 00 00", "42 02 0B B9 0B B9"), (0x18, 0), "0x18 before 0x02");
-    assert_eq!(change_error("10 01 75 31 00 00", "42 00"), (0x18, 0), "an array without values");
-    assert_eq!(change_error("10 00 75 32 00 00", "42 00"), (0x18, 0), "no elements count as one");
-    assert_eq!(change_error("10 01 75 32 00 00", "42 00"), (0x18, 0));
+    assert_eq!(change_error("10 01 03 A2 00 00", "43 02 00 00 00 00 00 00 00 00"), 0x01, "0x01 before 0x05");
+    assert_eq!(change_error("10 03 03 C5 00 00", "43 00"), 0x03, "0x03 before 0x01");
+    assert_eq!(change_error("10 01 75 31 00 00", "41 02 FF FF"), 0x05, "0x05 before 0x18");
+    assert_eq!(change_error("10 01 75 31 00 00", "42 02 0B B9 0B B9"), 0x18, "0x18 before 0x02");
+    assert_eq!(change_error("10 01 75 31 00 00", "42 00"), 0x18, "an array without values");
+    assert_eq!(change_error("10 00 75 32 00 00", "42 00"), 0x18, "no elements count as one");
+    assert_eq!(change_error("10 01 75 32 00 00", "42 00"), 0x18);
 }
 
 #[test]
 fn nothing_that_is_not_writable_changes() {
     for pnu in ["03 A2", "03 B0", "27 74", "27 75", "27 76", "27 77"] {
-        assert_eq!(change_error(&format!("10 01 {pnu} 00 00"), "42 01 00 00"), (0x01, 0));
+        assert_eq!(change_error(&format!("10 01 {pnu} 00 00"), "42 01 00 00"), 0x01);
     }
-    assert_eq!(change_error("10 01 03 B3 00 00", "42 01 00 00"), (0x01, 0));
-    assert_eq!(change_error("10 01 03 C5 00 00", "41 01 03 00"), (0x01, 0));
+    assert_eq!(change_error("10 01 03 B3 00 00", "42 01 00 00"), 0x01);
+    assert_eq!(change_error("10 01 03 C5 00 00", "41 01 03 00"), 0x01);
 }
 
 #[test]
@@ -104,7 +104,7 @@ fn formats_that_each_type_takes() {
             if accepted.contains(&format) {
                 assert_eq!(changed(address, &values).1, 1);
             } else {
-                assert_eq!(change_error(address, &values), (0x05, 0));
+                assert_eq!(change_error(address, &values), 0x05);
             }
         }
     }
@@ -113,18 +113,18 @@ fn formats_that_each_type_takes() {
 #[test]
 fn both_sides_of_every_limit() {
     assert_eq!(changed("10 01 75 31 00 03", "42 01 0B B8").0.p30001, [0, 0, 0, 3000]);
-    assert_eq!(change_error("10 01 75 31 00 03", "42 01 0B B9"), (0x02, 0));
+    assert_eq!(change_error("10 01 75 31 00 03", "42 01 0B B9"), 0x02);
     assert_eq!(changed("10 01 27 7F 00 00", "42 01 00 01").0.p10111, 1);
-    assert_eq!(change_error("10 01 27 7F 00 00", "42 01 00 00"), (0x02, 0));
+    assert_eq!(change_error("10 01 27 7F 00 00", "42 01 00 00"), 0x02);
     assert_eq!(changed("10 01 27 7F 00 00", "42 01 EA 60").0.p10111, 60000);
-    assert_eq!(change_error("10 01 27 7F 00 00", "42 01 EA 61"), (0x02, 0));
+    assert_eq!(change_error("10 01 27 7F 00 00", "42 01 EA 61"), 0x02);
     assert_eq!(changed("10 01 75 32 00 00", "42 01 40 00").0.p30002, 16384);
-    assert_eq!(change_error("10 01 75 32 00 00", "42 01 40 01"), (0x02, 0));
+    assert_eq!(change_error("10 01 75 32 00 00", "42 01 40 01"), 0x02);
     assert_eq!(changed("10 01 75 33 00 00", "06 01 7F FF").0.p30003, 32767);
-    assert_eq!(change_error("10 01 75 33 00 00", "06 01 80 00"), (0x02, 0));
+    assert_eq!(change_error("10 01 75 33 00 00", "06 01 80 00"), 0x02);
     assert_eq!(changed("10 02 75 34 00 00", "43 02 FF FE 79 60 00 01 86 A0").0.p30004, [-100_000, 100_000]);
-    assert_eq!(change_error("10 01 75 34 00 00", "04 01 FF FE 79 5F"), (0x02, 0));
-    assert_eq!(change_error("10 01 75 34 00 00", "04 01 00 01 86 A1"), (0x02, 0));
+    assert_eq!(change_error("10 01 75 34 00 00", "04 01 FF FE 79 5F"), 0x02);
+    assert_eq!(change_error("10 01 75 34 00 00", "04 01 00 01 86 A1"), 0x02);
     assert_eq!(changed("10 01 26 AC 00 00", "42 01 FF FF").0.p9900, 65535);
     assert_eq!(changed("10 02 26 AD 00 06", "42 02 FF FF 00 01").0.p9901, [0, 0, 0, 0, 0, 0, 65535, 1]);
 }
@@ -154,10 +154,10 @@ fn a_failed_change_goes_on() {
         ],
     );
     let (stored, response) = write_and_fetch(&mut station, 16, &block);
-    assert_eq!(stored, 1 + 2 + 2);
+    assert_eq!(stored, 1 + 2);
     assert_eq!(response, hex("11 82 10 04 40 00 44 01 00 02 44 01 00 00 40 00"));
     let part = &station.axes[15];
-    assert_eq!((part.p9900, part.p30001, part.p30004), (5, [1, 2, 0, 0], [1, -1]));
+    assert_eq!((part.p9900, part.p30001, part.p30004), (5, [0; 4], [1, -1]));
 }
 
 #[test]
@@ -180,13 +180,13 @@ fn reads_with_errors_between_values() {
 #[test]
 fn byte_values_are_judged_without_their_fill_byte() {
     for format in ["41", "02", "05"] {
-        assert_eq!(change_error("10 01 03 C5 00 00", &format!("{format} 01 03 00")), (0x01, 0));
-        assert_eq!(change_error("10 02 03 C5 00 00", &format!("{format} 02 03 29")), (0x01, 0));
-        assert_eq!(change_error("10 03 03 C5 00 00", &format!("{format} 03 03 29 00 00")), (0x03, 0));
-        assert_eq!(change_error("10 01 26 AC 00 00", &format!("{format} 01 05 00")), (0x05, 0), "no word of two bytes");
-        assert_eq!(change_error("10 01 26 AC 00 00", &format!("{format} 02 00 05")), (0x05, 0), "0x05 before 0x18");
-        assert_eq!(change_error("10 03 26 AD 00 00", &format!("{format} 03 01 02 03 00")), (0x05, 0));
-        assert_eq!(change_error("10 01 26 AC 00 00", &format!("{format} 00")), (0x05, 0));
+        assert_eq!(change_error("10 01 03 C5 00 00", &format!("{format} 01 03 00")), 0x01);
+        assert_eq!(change_error("10 02 03 C5 00 00", &format!("{format} 02 03 29")), 0x01);
+        assert_eq!(change_error("10 03 03 C5 00 00", &format!("{format} 03 03 29 00 00")), 0x03);
+        assert_eq!(change_error("10 01 26 AC 00 00", &format!("{format} 01 05 00")), 0x05, "no word of two bytes");
+        assert_eq!(change_error("10 01 26 AC 00 00", &format!("{format} 02 00 05")), 0x05, "0x05 before 0x18");
+        assert_eq!(change_error("10 03 26 AD 00 00", &format!("{format} 03 01 02 03 00")), 0x05);
+        assert_eq!(change_error("10 01 26 AC 00 00", &format!("{format} 00")), 0x05);
     }
 }
 

@@ -24,11 +24,9 @@ fn reads() -> Vec<Vec<u8>> {
 fn the_worked_write_in_one_call() {
     let mut station = Station::fresh();
     let (framed, reply) = send_merged(&mut station, 1, &worked_write());
-    assert_eq!(framed, Framed { length: 12, stored: 1, number: 0 });
+    assert_eq!(framed, Framed { length: 12, stored: 0, number: 0 });
     assert_eq!(reply, hex("5E 00 2F 08 07 82 01 01 44 01 00 02"));
-    let mut expected = Station::fresh();
-    expected.axes[0].p30001[0] = 1000;
-    assert!(station == expected, "mark 1000 is stored, and nothing waits");
+    assert!(station == Station::fresh(), "mark 0 stays 0, and nothing waits");
     assert_merged_refused(&mut station, 2, &worked_write(), 11, "DF 80 B6 00");
 }
 

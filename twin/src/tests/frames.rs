@@ -5,13 +5,13 @@ use crate::{Framed, Station};
 fn the_worked_frames() {
     let mut station = Station::fresh();
     let (framed, reply) = send(&mut station, 1, &worked_write());
-    assert_eq!((framed, reply), (Framed { length: 4, stored: 1, number: 0 }, hex("5F 00 2F 10")));
-    assert_eq!(station.axes[0].p30001, [1000, 0, 0, 0], "mark 1000 is not undone");
+    assert_eq!((framed, reply), (Framed { length: 4, stored: 0, number: 0 }, hex("5F 00 2F 10")));
+    assert_eq!(station.axes[0].p30001, [0; 4], "mark 0 stays 0");
     let (framed, reply) = send(&mut station, 1, &hex("5E 00 2F F0"));
     assert_eq!(framed, Framed { length: 12, stored: 0, number: 0 });
     assert_eq!(reply, hex("5E 00 2F 08 07 82 01 01 44 01 00 02"));
     assert_refused(&mut station, 2, &worked_write(), 11, "DF 80 B6 00");
-    assert!(station.axes[1..] == Station::fresh().axes[1..]);
+    assert!(station == Station::fresh());
 }
 
 #[test]

@@ -17,9 +17,33 @@ c 1 S2 0331 0
 c 1 S3 0333 0
 c 1 S4 0237 750
 c 1 S1 0360 0
-f 1 1 5F002F10
+f 1 0 5F002F10
 f 1 0 5E002F080782010144010002
 f 2 0 DF80B600
+";
+    assert_eq!(run(&journal), expected);
+}
+
+#[test]
+fn the_marks_after_the_worked_write() {
+    let marks = |values: &str| write_frame(&change(1, 1, &[("10 04 75 31 00 00", values)]));
+    let read = merged(1, &write_frame(&request(1, 1, &["10 04 75 31 00 00"])));
+    let journal = [
+        merged(1, &worked_write()),
+        read.clone(),
+        merged(1, &marks("42 04 0001 0002 0003 0004")),
+        merged(1, &worked_write()),
+        merged(1, &marks("42 04 0BB8 0BB8 0BB8 0BB9")),
+        read,
+    ]
+    .concat();
+    let expected = "\
+e 1 0 5E002F080782010144010002
+e 1 0 5E002F0E0101010142040000000000000000
+e 1 4 5E002F0401020101
+e 1 0 5E002F080782010144010002
+e 1 0 5E002F080182010144010002
+e 1 0 5E002F0E0101010142040001000200030004
 ";
     assert_eq!(run(&journal), expected);
 }
@@ -40,7 +64,7 @@ fn the_listing_read_a_byte_at_a_time() {
     let journal = [cycle(1, 0, 0x047E, 0, 0, 0), frame(1, &worked_write())].concat();
     let mut output = Vec::new();
     replay(Slow(&journal, false), &mut output).unwrap();
-    assert_eq!(output, b"c 1 S2 0331 0\nf 1 1 5F002F10\n");
+    assert_eq!(output, b"c 1 S2 0331 0\nf 1 0 5F002F10\n");
 }
 
 #[test]
@@ -76,11 +100,11 @@ fn merged_calls() {
     ]
     .concat();
     let expected = "\
-e 1 1 5E002F080782010144010002
-e 1 1 5E002F080782010144010002
+e 1 0 5E002F080782010144010002
+e 1 0 5E002F080782010144010002
 f 1 0 DE80B500
 e 2 0 DF80B600
-f 1 1 5F002F10
+f 1 0 5F002F10
 e 1 0 DF80B500
 e 1 0 -
 f 1 0 5E002F080782010144010002

@@ -1,4 +1,4 @@
-//! Worked cases of document 01, of of document 02 and of the readings.
+//! Worked cases of document 01, of of document 02 and of the readings.
 
 mod addresses;
 mod blocks;
@@ -10,6 +10,7 @@ mod journal;
 mod parts;
 mod random;
 mod season;
+mod whole;
 
 use crate::{Framed, Station};
 use std::io::{self, Read};

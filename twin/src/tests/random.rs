@@ -1,11 +1,12 @@
 //! Random runs: the station stays well-formed, refusals change nothing, other parts are untouched, accepted blocks are of
-//! even length; the merged call is the two calls in turn; the season report is what the replay's lines tell.
+//! even length; every address of a change is stored whole or not at all; the merged call is the two calls in turn; the
+//! season report is what the replay's lines tell.
 
-use super::{cycle, hex, record, UNTOUCHED};
+use super::{cycle, hex, record, write_and_fetch, UNTOUCHED};
 use crate::record::FRAME_MAX;
 use crate::{
-    parse_request, parse_response, replay, report, well_formed, Counts, Framed, Item, ResponseKind, State, Station,
-    Totals, Values, AXES, COUNTS,
+    parse_request, parse_response, replay, report, well_formed, Axis, Counts, Framed, Item, ResponseKind, State,
+    Station, Totals, Values, AXES, COUNTS,
 };
 
 /// A small generator of its own (xorshift64*).
@@ -116,6 +117,80 @@ fn random_frames() {
     }
     assert!(filled_requests > 100 && filled_responses > 100, "{filled_requests} {filled_responses}");
     assert!([0, 7, 8, 9, 10, 11].iter().all(|number| seen[*number] > 20), "{seen:?}");
+}
+
+/// Some elements of an array, and a value for each that is seldom outside its limits.
+struct Elements {
+    pnu: u16,
+    first: usize,
+    values: Vec<i32>,
+    /// Whether all values are inside the limits.
+    inside: bool,
+}
+
+/// Elements of the marks or of the offsets.
+fn random_elements(random: &mut Random) -> Elements {
+    let (pnu, length, low, high) = random.pick(&[(30001, 4, 0, 3000), (30004, 2, -100_000, 100_000)]);
+    let first = random.below(length);
+    let count = 1 + random.below(length - first);
+    let bad: Vec<bool> = (0..count).map(|_| random.one_in(6)).collect();
+    let value = |bad: &bool| if *bad { random.pick(&[low - 1, high + 1]) } else { random.pick(&[low, 7, high]) };
+    Elements { pnu, first: first as usize, values: bad.iter().map(value).collect(), inside: !bad.contains(&true) }
+}
+
+impl Elements {
+    fn address(&self) -> Vec<u8> {
+        let [high, low] = self.pnu.to_be_bytes();
+        vec![0x10, self.values.len() as u8, high, low, 0, self.first as u8]
+    }
+
+    fn value_block(&self) -> Vec<u8> {
+        let (format, size) = if self.pnu == 30001 { (0x42, 2) } else { (0x43, 4) };
+        let values = self.values.iter().flat_map(|value| value.to_be_bytes()[4 - size..].to_vec());
+        [format, self.values.len() as u8].into_iter().chain(values).collect()
+    }
+
+    /// Stores all of them.
+    fn store(&self, part: &mut Axis) {
+        for (element, value) in (self.first..).zip(&self.values) {
+            match self.pnu {
+                30001 => part.p30001[element] = *value as u16,
+                _ => part.p30004[element] = *value,
+            }
+        }
+    }
+}
+
+/// What a change of these answers, and the elements stored; the part gets those of every address that is inside.
+fn stored_whole(part: &mut Axis, sent: &[Elements]) -> (u16, Vec<u8>) {
+    let inside = || sent.iter().filter(|elements| elements.inside);
+    inside().for_each(|elements| elements.store(part));
+    let stored = inside().map(|elements| elements.values.len() as u16).sum();
+    if inside().count() == sent.len() {
+        return (stored, vec![1, 0x02, 1, sent.len() as u8]);
+    }
+    let block = |elements: &Elements| hex(if elements.inside { "40 00" } else { "44 01 00 02" });
+    (stored, [1, 0x82, 1, sent.len() as u8].into_iter().chain(sent.iter().flat_map(block)).collect())
+}
+
+#[test]
+fn random_changes() {
+    let mut random = Random(0x0A11_0240_7E1D_0006);
+    let mut station = Station::fresh();
+    let mut seen = [0u32; 2];
+    for _ in 0..20_000 {
+        let count = 1 + random.below(6) as u8;
+        let sent: Vec<Elements> = (0..count).map(|_| random_elements(&mut random)).collect();
+        let addresses = sent.iter().flat_map(Elements::address);
+        let values = sent.iter().flat_map(Elements::value_block);
+        let block: Vec<u8> = [1, 2, 1, count].into_iter().chain(addresses).chain(values).collect();
+        let mut expected = station.clone();
+        let answer = stored_whole(&mut expected.axes[0], &sent);
+        assert_eq!(write_and_fetch(&mut station, 1, &block), answer, "{block:02X?}");
+        assert!(station == expected, "{block:02X?}");
+        sent.iter().for_each(|elements| seen[usize::from(elements.inside)] += 1);
+    }
+    assert!(seen.iter().all(|times| *times > 10_000), "{seen:?}");
 }
 
 /// The calls that a merged call stands for, made in turn on the same station; where the write is refused, it alone. A

@@ -12,6 +12,12 @@ fn words(axis: u8, words: &[u16]) -> Vec<u8> {
     words.iter().flat_map(|word| cycle(axis, 0, *word, 0, 0, 0)).collect()
 }
 
+/// A write of one element of 9900 of an axis, and of marks that are not stored.
+fn one_element(axis: u8) -> Vec<u8> {
+    let marks = ("10 02 75 31 00 00", "42 02 03E8 0BB9");
+    write_frame(&change(1, axis, &[("10 01 26 AC 00 00", "42 01 0005"), marks]))
+}
+
 /// A write of all eight elements of 9901 of an axis.
 fn eight_elements(axis: u8) -> Vec<u8> {
     let values = "42 08 0001 0002 0003 0004 0005 0006 0007 0008";
@@ -44,7 +50,7 @@ fn assert_counts(journal: &[u8], farms: &[(usize, Counts)]) {
 #[test]
 fn the_worked_journal() {
     let expected = "\
-r 1 1 1 1 1 0 0 1 0 0 1
+r 1 1 1 1 1 0 0 1 0 0 0
 r 2 0 0 0 0 0 0 0 0 1 0
 r 3 0 0 0 0 0 0 0 0 0 0
 r 4 0 0 0 0 0 0 0 0 0 0
@@ -71,9 +77,10 @@ fn an_empty_journal() {
 
 #[test]
 fn a_bad_record_ends_with_the_totals_so_far() {
-    let before = worked_journal();
+    let before = [worked_journal(), frame(3, &one_element(3))].concat();
     let after = words(16, &TO_S4);
-    let so_far = totals(&[(1, [1, 1, 1, 1, 0, 0, 1, 0, 0, 1]), (2, [0, 0, 0, 0, 0, 0, 0, 0, 1, 0])]);
+    let (denied, stored) = ([0, 0, 0, 0, 0, 0, 0, 0, 1, 0], [0, 0, 0, 0, 0, 0, 0, 0, 0, 1]);
+    let so_far = totals(&[(1, [1, 1, 1, 1, 0, 0, 1, 0, 0, 0]), (2, denied), (3, stored)]);
     let past_the_frame = [frame(1, &[]), merged(1, &[])].map(|record| [&record[..246], &[1]].concat());
     let cut =
         [cycle(1, 0, 0, 0, 0, 0), frame(1, &[]), merged(1, &[])].map(|record| record[..record.len() - 1].to_vec());
@@ -171,15 +178,16 @@ fn stored_elements() {
     let waiting = [frame(3, &eight_elements(3)), frame(3, &eight_elements(3))].concat();
     assert_counts(&waiting, &[(3, [0, 0, 0, 0, 0, 0, 0, 0, 0, 8])]);
     let marks = write_frame(&change(1, 3, &[("10 04 75 31 00 00", "42 04 0001 0002 0BB9 0003")]));
-    assert_counts(&frame(3, &marks), &[(3, [0, 0, 0, 0, 0, 0, 0, 0, 0, 2])]);
+    assert_counts(&frame(3, &marks), &[]);
+    assert_counts(&frame(3, &one_element(3)), &[(3, [0, 0, 0, 0, 0, 0, 0, 0, 0, 1])]);
 }
 
 #[test]
 fn merged_calls_count_as_frames_do() {
     let one = [0, 0, 0, 0, 0, 0, 0, 0, 0, 1];
     let denied = [0, 0, 0, 0, 0, 0, 0, 0, 1, 0];
-    let journal = [merged(1, &worked_write()), merged(2, &worked_write())].concat();
-    assert_counts(&journal, &[(1, one), (2, denied)]);
+    let journal = [merged(1, &worked_write()), merged(2, &worked_write()), merged(3, &one_element(3))].concat();
+    assert_counts(&journal, &[(2, denied), (3, one)]);
     let twice = [merged(3, &eight_elements(3)), merged(3, &eight_elements(3))].concat();
     assert_counts(&twice, &[(3, [0, 0, 0, 0, 0, 0, 0, 0, 0, 16])]);
     for axis in [0, 1, 15, 17, 255] {
@@ -213,7 +221,8 @@ fn steps() -> Vec<(Vec<u8>, Vec<u8>, Counts)> {
         (cycle(1, 0, s2, 0, 0, 5), words(1, &[0x04FE]), [0, 1, 0, 0, 0, 0, 0, 1, 0, 0]),
         (cycle(1, 0, s2, 0, 0, 5), words(1, &[0x04FF]), [1, 0, 0, 0, 0, 0, 0, 1, 0, 0]),
         (vec![], frame(1, &eight_elements(2)), [0, 0, 0, 0, 0, 0, 0, 0, 1, 0]),
-        (vec![], frame(1, &worked_write()), [0, 0, 0, 0, 0, 0, 0, 0, 0, 1]),
+        (vec![], frame(1, &worked_write()), [0; COUNTS]),
+        (vec![], frame(1, &one_element(1)), [0, 0, 0, 0, 0, 0, 0, 0, 0, 1]),
         (vec![], frame(1, &eight_elements(1)), [0, 0, 0, 0, 0, 0, 0, 0, 0, 8]),
         (vec![], merged(1, &eight_elements(2)), [0, 0, 0, 0, 0, 0, 0, 0, 1, 0]),
         (merged(1, &worked_write()), merged(1, &eight_elements(1)), [0, 0, 0, 0, 0, 0, 0, 0, 0, 8]),
