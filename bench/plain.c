@@ -375,7 +375,19 @@ static int locate(const uint8_t address[ADDRESS], struct place *place)
     return -1;
 }
 
-/* One address of a change: -1 or the error. Counts what it stores, also where an error follows. */
+/* Whether n values all lie inside a parameter's limits. */
+static bool inside(const struct parameter *p, const uint8_t *value, unsigned n)
+{
+    for (; n > 0; n--, value += p->size) {
+        int32_t x = p->type == I32 ? signed_double(value) : (int32_t)word(value); /* no other type is writable */
+
+        if (x < p->low || x > p->high)
+            return false;
+    }
+    return true;
+}
+
+/* One address of a change: -1, its elements stored and counted; or the error, and none is. */
 static int change(struct part *part, const uint8_t *address, const uint8_t *values, uint16_t *stored)
 {
     struct place to = { NULL, 0, 0 };
@@ -390,15 +402,10 @@ static int change(struct part *part, const uint8_t *address, const uint8_t *valu
         return 0x05;
     if (values[1] != to.elements)
         return 0x18;
-    const uint8_t *value = values + 2;
-    uint8_t *element = (uint8_t *)part + to.at;
-    for (unsigned i = 0; i < to.elements; i++, value += p->size, element += p->size, ++*stored) {
-        int32_t n = p->type == I32 ? signed_double(value) : (int32_t)word(value); /* no other type is writable */
-
-        if (n < p->low || n > p->high)
-            return 0x02;
-        memcpy(element, value, p->size);
-    }
+    if (!inside(p, values + 2, to.elements))
+        return 0x02;
+    memcpy((uint8_t *)part + to.at, values + 2, to.elements * p->size);
+    *stored += (uint16_t)to.elements;
     return -1;
 }
 

@@ -17,7 +17,7 @@ enum { REPLY = 244 };
 static uint8_t *station;
 static size_t station_len;
 
-/* Marks 0 and 1 of farm 1 are to be 1000 and 3001 mm. The second is over the limit of 3000. */
+/* Marks 0 and 1 of farm 1 are to be 1000 and 3001 mm. The second is over the limit of 3000, so neither is stored. */
 static const uint8_t write_marks[] = {
     0x5F, 0x00, 0x2F, 0x10,             /* write, slot 0, index 47, 16 bytes follow */
     0x07, 0x02, 0x01, 0x01,             /* reference 7, change, axis 1, one parameter */
@@ -71,7 +71,7 @@ int main(void)
     cycle(1, 0x047F, 0x2000); /* operation at half speed */
     cycle(1, 0x047D, 0);      /* coast stop */
 
-    exchange(1, write_marks, sizeof write_marks, DONE); /* mark 0 is stored, mark 1 is not: 82, value out of limits */
+    exchange(1, write_marks, sizeof write_marks, DONE); /* no mark is stored: 82, value out of limits */
     exchange(2, write_marks, sizeof write_marks, AXIS_NOT_THE_CALLERS);
 
     free(station);

@@ -217,10 +217,13 @@ static bool guards_kept(const struct memory *lent)
 
 /* ---- Frames used in many places ------------------------------------------------------------------------------ */
 
-/* Farm 1 writes marks 1000 and 3001; the second is over its limit of 3000. */
+/* Farm 1 writes marks 1000 and 3001; the second is over its limit of 3000, so that neither is stored. */
 static const char write_marks[] = "5F 00 2F 10  07 02 01 01  10 02 75 31 00 00  42 02 03 E8 0B B9";
-enum { MARKS_STORED = 1 };
 static const char marks_response[] = "5E 00 2F 08  07 82 01 01  44 01 00 02";
+/* Farm 1 writes marks 2500 and 3000, and both are stored. */
+static const char store_marks[] = "5F 00 2F 10  07 02 01 01  10 02 75 31 00 00  42 02 09 C4 0B B8";
+enum { MARKS_STORED = 2 };
+static const char stored_response[] = "5E 00 2F 04  07 02 01 01";
 /* Farm 1 reads PNU 930, which is 1. Eight bytes wait afterwards. */
 static const char read_930[] = "5F 00 2F 0A  07 01 01 01  10 01 03 A2 00 00";
 static const char response_930[] = "5E 00 2F 08  07 01 01 01  42 01 00 01";
@@ -530,7 +533,7 @@ static void sizes(void)
     memset(start(&station), 0, size);
     fresh("fresh over 00", 0);
     check_bytes("fresh over 00", "a fresh station", start(&station), first, size);
-    frame("used", 1, write_marks, 0, MARKS_STORED, "5F 00 2F 10");
+    frame("used", 1, store_marks, 0, MARKS_STORED, "5F 00 2F 10");
     fresh("fresh over a used station", 0);
     check_bytes("fresh over a used station", "a fresh station", start(&station), first, size);
     free(first);
@@ -545,23 +548,23 @@ static void worked(void)
     cycle("worked cycle 3", (struct turn){ .axis = 1, .stw1 = 0x047F, .nsoll = 0x2000,
                                            .state = 4, .status = 0x0237, .rpm = 750 });
     cycle("worked cycle 4", (struct turn){ .axis = 1, .stw1 = 0x047D, .state = 1, .status = 0x0360 });
-    frame("worked write", 1, write_marks, 0, MARKS_STORED, "5F 00 2F 10");
+    frame("worked write", 1, write_marks, 0, 0, "5F 00 2F 10");
     frame("worked fetch", 1, fetch, 0, 0, marks_response);
     frame("worked denial", 2, write_marks, 11, 0, "DF 80 B6 00");
 }
 
-/* The marks as they are then kept. Mark 3000 is stored, 3001 is not. */
+/* The marks as they are then kept: none was stored. By itself mark 3000 is stored, 3001 is not. */
 static void marks(void)
 {
     worked();
     frame("marks read", 1, read_marks, 0, 0, "5F 00 2F 0A");
-    frame("marks fetched", 1, fetch, 0, 0, "5E 00 2F 0E  08 01 01 01  42 04 03 E8 00 00 00 00 00 00");
+    frame("marks fetched", 1, fetch, 0, 0, "5E 00 2F 0E  08 01 01 01  42 04 00 00 00 00 00 00 00 00");
     frame("mark 3000", 1, "5F 00 2F 0E  09 02 01 01  10 01 75 31 00 03  42 01 0B B8", 0, 1, "5F 00 2F 0E");
     frame("mark 3000 fetched", 1, fetch, 0, 0, "5E 00 2F 04  09 02 01 01");
     frame("mark 3001", 1, "5F 00 2F 0E  0A 02 01 01  10 01 75 31 00 03  42 01 0B B9", 0, 0, "5F 00 2F 0E");
     frame("mark 3001 fetched", 1, fetch, 0, 0, "5E 00 2F 08  0A 82 01 01  44 01 00 02");
     frame("marks read again", 1, read_marks, 0, 0, "5F 00 2F 0A");
-    frame("marks fetched again", 1, fetch, 0, 0, "5E 00 2F 0E  08 01 01 01  42 04 03 E8 00 00 00 00 0B B8");
+    frame("marks fetched again", 1, fetch, 0, 0, "5E 00 2F 0E  08 01 01 01  42 04 00 00 00 00 00 00 0B B8");
     frame("farm 2 reads its marks", 2, "5F 00 2F 0A  08 01 02 01  10 04 75 31 00 00", 0, 0, "5F 00 2F 0A");
     frame("farm 2 fetches its marks", 2, fetch, 0, 0, "5E 00 2F 0E  08 01 02 01  42 04 00 00 00 00 00 00 00 00");
     frame("one mark twice, both stores count", 1,
@@ -918,7 +921,7 @@ static void waiting(void)
     uint8_t *idle = copy_of(&station);
     frame("read 930", 1, read_930, 0, 0, "5F 00 2F 0A");
     frame("8: the same write again", 1, read_930, 8, 0, "DF 80 B5 00");
-    frame("8: a change", 1, write_marks, 8, 0, "DF 80 B5 00");
+    frame("8: a change", 1, store_marks, 8, 0, "DF 80 B5 00");
     frame("8: before 10", 1, "5F 00 2F 00", 8, 0, "DF 80 B5 00");
     frame("8: before 11", 1, "5F 00 2F 0A  07 01 02 01  10 01 03 A2 00 00", 8, 0, "DF 80 B5 00");
     frame("9: wants 0", 1, "5E 00 2F 00", 9, 0, "DE 80 B7 00");
@@ -975,14 +978,15 @@ static void merged_reads(void)
 static void merged_calls(void)
 {
     fresh_station();
-    exchange("marks written", 1, write_marks, 0, MARKS_STORED, marks_response);
-    exchange("11: marks denied", 2, write_marks, 11, 0, "DF 80 B6 00");
-    exchange("marks read", 1, read_marks, 0, 0, "5E 00 2F 0E  08 01 01 01  42 04 03 E8 00 00 00 00 00 00");
+    exchange("marks stored", 1, store_marks, 0, MARKS_STORED, stored_response);
+    exchange("11: marks denied", 2, store_marks, 11, 0, "DF 80 B6 00");
+    exchange("marks not stored", 1, write_marks, 0, 0, marks_response);
+    exchange("marks read", 1, read_marks, 0, 0, "5E 00 2F 0E  08 01 01 01  42 04 09 C4 0B B8 00 00 00 00");
     exchange("all stored", 1,
              "5F 00 2F 1A  09 02 01 02  10 02 75 31 00 02  10 01 27 7F 00 00  42 02 0B B8 00 01  06 01 03 E8", 0, 3,
              "5E 00 2F 04  09 02 01 02");
     exchange("all read", 1, "5F 00 2F 16  0A 01 01 03  10 04 75 31 00 00  10 01 27 7F 00 00  10 01 03 C5 00 01", 0, 0,
-             "5E 00 2F 16  0A 01 01 03  42 04 03 E8 00 00 0B B8 00 01  42 01 03 E8  41 01 29 00");
+             "5E 00 2F 16  0A 01 01 03  42 04 09 C4 0B B8 0B B8 00 01  42 01 03 E8  41 01 29 00");
     exchange("an error beside a value", 1, "5F 00 2F 10  0B 01 01 02  10 05 75 31 00 00  10 01 03 A2 00 00", 0, 0,
              "5E 00 2F 0C  0B 81 01 02  44 01 00 03  42 01 00 01");
     exchange("farm 16", 16, "5F 00 2F 0A  0C 01 10 01  10 01 03 A2 00 00", 0, 0,
@@ -1006,20 +1010,20 @@ static void merged_waiting(void)
     exchange("farm 2 has none waiting", 2, mark_of_farm_2, 0, 1, "5E 00 2F 04  07 02 02 01");
     frame("9: wants one too few", 1, "5E 00 2F 07", 9, 0, "DE 80 B7 00");
     frame("fetched at last", 1, fetch, 0, 0, response_930);
-    exchange("goes through then", 1, write_marks, 0, MARKS_STORED, marks_response);
+    exchange("goes through then", 1, store_marks, 0, MARKS_STORED, stored_response);
     exchange("and again", 1, read_930, 0, 0, response_930);
 }
 
 static void farm_1_begins(void)
 {
     cycle("farm 1 begins", (struct turn){ .axis = 1, .stw1 = 0x047E, .state = 2, .status = 0x0331 });
-    frame("farm 1 begins", 1, write_marks, 0, MARKS_STORED, "5F 00 2F 10");
+    frame("farm 1 begins", 1, store_marks, 0, MARKS_STORED, "5F 00 2F 10");
 }
 
 static void farm_1_ends(void)
 {
     cycle("farm 1 ends", (struct turn){ .axis = 1, .stw1 = 0x047F, .state = 3, .status = 0x0333 });
-    frame("farm 1 ends", 1, fetch, 0, 0, marks_response);
+    frame("farm 1 ends", 1, fetch, 0, 0, stored_response);
 }
 
 static void farm_2_begins(void)
@@ -1097,11 +1101,12 @@ static void overwritten_parts(void)
 static void moved_parts(void)
 {
     worked();
+    exchange("marks to be moved", 1, store_marks, 0, MARKS_STORED, stored_response);
     memcpy(part(2), part(1), part_size());
     frame("farm 2 reads the marks moved to it", 2, "5F 00 2F 0A  08 01 02 01  10 04 75 31 00 00", 0, 0,
           "5F 00 2F 0A");
     frame("farm 2 fetches the marks moved to it", 2, fetch, 0, 0,
-          "5E 00 2F 0E  08 01 02 01  42 04 03 E8 00 00 00 00 00 00");
+          "5E 00 2F 0E  08 01 02 01  42 04 09 C4 0B B8 00 00 00 00");
     frame("a response of axis 1", 1, read_930, 0, 0, "5F 00 2F 0A");
     memcpy(part(2), part(1), part_size());
     frame("2: fetch of a response of axis 1", 2, fetch, 2, 0, "");
@@ -1113,15 +1118,15 @@ static void moved_parts(void)
 static void moved_station(void)
 {
     fresh_station();
-    frame("before the move", 1, write_marks, 0, MARKS_STORED, "5F 00 2F 10");
+    frame("before the move", 1, store_marks, 0, MARKS_STORED, "5F 00 2F 10");
     struct memory other = station_again(station.len), first = station;
     station = other;
-    frame("moved station: fetch", 1, fetch, 0, 0, marks_response);
-    frame("moved station: read", 1, read_930, 0, 0, "5F 00 2F 0A");
+    frame("moved station: fetch", 1, fetch, 0, 0, stored_response);
+    frame("moved station: read", 1, read_marks, 0, 0, "5F 00 2F 0A");
     station = first;
-    frame("first station: fetch", 1, fetch, 0, 0, marks_response);
+    frame("first station: fetch", 1, fetch, 0, 0, stored_response);
     station = other;
-    frame("moved station: fetch again", 1, fetch, 0, 0, response_930);
+    frame("moved station: fetch again", 1, fetch, 0, 0, "5E 00 2F 0E  08 01 01 01  42 04 09 C4 0B B8 00 00 00 00");
     give_back(&first);
 }
 
@@ -1323,6 +1328,97 @@ static void addresses(void)
     frame("what was stored", 1, fetch, 0, 0,
           "5E 00 2F 1E  0C 01 01 05  42 01 00 A4  42 01 7F FF  43 02 00 00 00 00 FF FE 79 60  41 02 03 29 "
           "42 01 05 DC");
+}
+
+/* Marks and offsets that are neither fresh nor those that a failing change has. */
+static void elements_set(void)
+{
+    fresh_station();
+    exchange("marks and offsets set", 1,
+             "5F 00 2F 24  07 02 01 02  10 04 75 31 00 00  10 02 75 34 00 00  42 04 01 11 02 22 03 33 04 44 "
+             "43 02 00 00 11 11 FF FF EE EE", 0, 6, "5E 00 2F 04  07 02 01 02");
+}
+
+/* So many marks, from one on, are to become 3000, but for a set of bad ones, number 1 the first, which are 3001. */
+static void marks_written(uint8_t first, uint8_t count, unsigned bad)
+{
+    struct bytes change = hex("5F 00 2F 00  07 02 01 01  10 00 75 31 00 00  42 00");
+    struct bytes kept = hex("5E 00 2F 0E  08 01 01 01  42 04 01 11 02 22 03 33 04 44");
+    const char *name = named("%u marks from mark %u on, bad%s", (unsigned)count, (unsigned)first, listed(bad));
+
+    change.at[9] = change.at[15] = count;
+    change.at[13] = first;
+    for (unsigned number = 1; number <= count; number++)
+        add(&change, has(bad, number) ? "0B B9" : "0B B8");
+    change.at[3] = (uint8_t)(change.len - 4);
+    if (bad == 0)
+        memcpy(kept.at + 10 + 2 * first, change.at + 16, 2 * (size_t)count);
+    struct bytes acknowledgement = change;
+    acknowledgement.len = 4;
+    elements_set();
+    send(name, (struct sending){ 1, change, 0, REPLY, 0, bad == 0 ? count : 0, acknowledgement });
+    frame(name, 1, fetch, 0, 0, bad == 0 ? stored_response : marks_response);
+    exchange_sent(name, (struct sending){ 1, hex(read_marks), 0, REPLY, 0, 0, kept });
+}
+
+/* Marks 0 and 1, both offsets, marks 2 and 3: a set of these addresses, number 1 the first, has a bad value each and is
+ * not stored; the others are. */
+static void addresses_written(unsigned bad)
+{
+    static const char *const format[] = { "42 02", "43 02", "06 02" };
+    static const char *const before[] = { "01 11 02 22", "00 00 11 11 FF FF EE EE", "03 33 04 44" };
+    static const char *const good[] = { "05 55 06 66", "00 00 22 22 FF FF DD DD", "07 77 08 88" };
+    static const char *const wrong[] = { "05 55 0B B9", "00 00 22 22 FF FE 79 5F", "0B B9 08 88" };
+    struct bytes change = hex("5F 00 2F 2C  07 02 01 03  10 02 75 31 00 00  10 02 75 34 00 00  10 02 75 31 00 02");
+    struct bytes response = hex("5E 00 2F 00  07 82 01 03"), kept = hex("5E 00 2F 18  08 01 01 02  42 04");
+    const char *kept_of[3], *name = named("three addresses, bad%s", listed(bad));
+    uint16_t stored = 0;
+
+    for (unsigned k = 0; k < 3; k++) {
+        bool fails = has(bad, k + 1);
+
+        add(&change, format[k]);
+        add(&change, fails ? wrong[k] : good[k]);
+        add(&response, fails ? "44 01 00 02" : "40 00");
+        kept_of[k] = fails ? before[k] : good[k];
+        stored += fails ? 0 : 2;
+    }
+    response.at[3] = (uint8_t)(response.len - 4);
+    if (bad == 0)
+        response = hex("5E 00 2F 04  07 02 01 03");
+    add(&kept, kept_of[0]);
+    add(&kept, kept_of[2]);
+    add(&kept, "43 02");
+    add(&kept, kept_of[1]);
+    elements_set();
+    send(name, (struct sending){ 1, change, 0, REPLY, 0, stored, hex("5F 00 2F 2C") });
+    send(name, (struct sending){ 1, hex(fetch), 0, REPLY, 0, 0, response });
+    exchange_sent(name, (struct sending){ 1, hex("5F 00 2F 10  08 01 01 02  10 04 75 31 00 00  10 02 75 34 00 00"), 0,
+                                          REPLY, 0, 0, kept });
+}
+
+/* R-6: "An address is stored whole or not at all." Every part of the marks with every set of bad ones, every set of bad
+ * addresses, and the same marks twice in one change: what the one stored is not undone by the other. */
+static void stored_whole(void)
+{
+    static const char kept[] = "5E 00 2F 0E  08 01 01 01  42 04 05 55 06 66 07 77 08 88";
+
+    for (uint8_t first = 0; first < 4; first++)
+        for (uint8_t count = 1; first + count <= 4; count++)
+            for (unsigned bad = 0; bad < 2u << count; bad += 2)
+                marks_written(first, count, bad);
+    for (unsigned bad = 0; bad < 2u << 3; bad += 2)
+        addresses_written(bad);
+    elements_set();
+    exchange("marks good, then bad", 1,
+             "5F 00 2F 24  07 02 01 02  10 04 75 31 00 00  10 04 75 31 00 00  42 04 05 55 06 66 07 77 08 88 "
+             "42 04 09 99 09 99 09 99 0B B9", 0, 4, "5E 00 2F 0A  07 82 01 02  40 00  44 01 00 02");
+    exchange("marks good, then bad: read", 1, read_marks, 0, 0, kept);
+    elements_set();
+    exchange("marks bad, then good", 1,
+             "5F 00 2F 24  07 02 01 02  10 04 75 31 00 00  10 04 75 31 00 00  42 04 09 99 09 99 09 99 0B B9 "
+             "42 04 05 55 06 66 07 77 08 88", 0, 4, "5E 00 2F 0A  07 82 01 02  44 01 00 02  40 00");
+    exchange("marks bad, then good: read", 1, read_marks, 0, 0, kept);
 }
 
 /* Element 0 of each parameter, no two the same, as elements_apart leaves them; of a number that is none, error 0x00. */
@@ -2014,6 +2110,7 @@ static const struct group {
     { "fill bytes read", fill_bytes_read },
     { "fill bytes waiting", fill_bytes_waiting },
     { "address rules", addresses },
+    { "addresses stored whole", stored_whole },
     { "every parameter number", every_number },
     { "cycles", cycles },
     { "faults", faults },

@@ -22,6 +22,8 @@ pub enum Kind {
 const KNOWN: [u16; 15] =
     [930, 944, 947, 965, 10100, 10101, 10102, 10103, 9900, 9901, 10111, 30001, 30002, 30003, 30004];
 const WRITABLE: &[u16] = KNOWN.split_at(8).1;
+/// The writable arrays whose limits leave values out.
+const LIMITED: [u16; 2] = [30001, 30004];
 /// No parameters: beside each known number, on both sides, and far off.
 const UNKNOWN: [u16; 19] =
     [0, 1, 929, 931, 943, 945, 946, 948, 964, 966, 9899, 9902, 10099, 10104, 10110, 10112, 30000, 30005, 65535];
@@ -175,10 +177,27 @@ fn change(random: &mut Random, axis: u8) -> Block {
         block.addresses.push(address);
         block.values.push(values);
     }
+    if right && random.one_in(3) {
+        put_outside(random, &mut block);
+    }
     if random.one_in(8) {
         fill_up(random, &mut block);
     }
     Block { reference: reference(random), count: block.addresses.len() as u8, ..block }
+}
+
+/// One value of several in an address outside its limits, in a change that is right but for it.
+fn put_outside(random: &mut Random, block: &mut Block) {
+    let fits = |at: &usize| LIMITED.contains(&block.addresses[*at].pnu) && block.values[*at].values.len() > 1;
+    let places: Vec<usize> = (0..block.addresses.len()).filter(fits).collect();
+    if places.is_empty() {
+        return;
+    }
+    let at = random.pick(&places);
+    let (low, high) = limits(block.addresses[at].pnu);
+    let values = &mut block.values[at].values;
+    let place = random.below(values.len());
+    values[place] = random.pick(&[low - 1, high + 1]) as u32;
 }
 
 /// One more address, whose values end near the last byte of a block. Where they are bytes, a fill byte may follow.
@@ -271,8 +290,13 @@ fn value_block(random: &mut Random, pnu: u16, elements: u8, right: bool) -> Valu
         _ => wanted,
     };
     let size = twin::block::format_size(format).unwrap_or_else(|| random.pick(&[1, 2, 4]));
-    let limits = parameter.and_then(Parameter::limits).unwrap_or((0, 65535));
+    let limits = limits(pnu);
     Values { format, size, values: (0..count).map(|_| value(random, limits, right) as u32).collect() }
+}
+
+/// The limits of a parameter; all words where it has none.
+fn limits(pnu: u16) -> (i32, i32) {
+    Parameter::find(pnu).and_then(Parameter::limits).unwrap_or((0, 65535))
 }
 
 /// A value at, inside or just outside the limits.
@@ -362,5 +386,30 @@ mod tests {
                 assert_eq!(Block::of_request(&bytes), None, "{bytes:02X?}");
             }
         }
+    }
+
+    #[test]
+    fn one_of_several_values_is_put_outside() {
+        let address = |elements, pnu| Address { attribute: 0x10, elements, pnu, sub_index: 0 };
+        let ones = |size, count| Values { format: 0x42, size, values: vec![1; count] };
+        let addresses = vec![address(1, 30001), address(3, 30001), address(3, 9901), address(2, 30004)];
+        let values = vec![ones(2, 1), ones(2, 3), ones(2, 3), ones(4, 2)];
+        let right = Block { addresses, values, ..empty(7, 0x02, 1) };
+        let mut random = Random::new(3);
+        let mut met = Vec::new();
+        for _ in 0..200 {
+            let mut block = right.clone();
+            put_outside(&mut random, &mut block);
+            for (at, Values { values, .. }) in block.values.iter().enumerate() {
+                let others = values.iter().enumerate().filter(|(_, value)| **value != 1);
+                met.extend(others.map(|(place, value)| (at, place, *value as i32)));
+            }
+        }
+        assert_eq!(met.len(), 200, "one of each block");
+        met.sort_unstable();
+        met.dedup();
+        let marks = (0..3).flat_map(|place| [(1, place, -1), (1, place, 3001)]);
+        let offsets = (0..2).flat_map(|place| [(3, place, -100_001), (3, place, 100_001)]);
+        assert_eq!(met, marks.chain(offsets).collect::<Vec<_>>());
     }
 }

@@ -1,7 +1,7 @@
 //! Checks: requests and responses to be held against each other, and what a run of calls has met of them.
 
 use crate::blocks::{any_values, block, damage_bytes, free, misfilled};
-use crate::counts::{named, names, place, unmet, Counts};
+use crate::counts::{named, names, place, place_among, unmet, Counts, PLACES};
 use crate::layout::{Block, Values, HEADER};
 use crate::pair::hex;
 use crate::random::Random;
@@ -330,8 +330,6 @@ const MATCHING: [([u8; 2], &str); 4] =
     [([0x01, 0x01], "01 01"), ([0x01, 0x81], "01 81"), ([0x02, 0x02], "02 02"), ([0x02, 0x82], "02 82")];
 const MISMATCHED: [([u8; 2], &str); 4] =
     [([0x01, 0x02], "01 02"), ([0x01, 0x82], "01 82"), ([0x02, 0x01], "02 01"), ([0x02, 0x81], "02 81")];
-/// Where the first block stands that fails check 7.
-const PLACES: [&str; 4] = ["the only block", "the first", "one between", "the last"];
 /// What else there is to meet where both blocks are readable.
 const MET: [&str; 11] = [
     "1 value for 0 elements passes",
@@ -357,6 +355,7 @@ pub struct Checks {
     damages: [[u64; DAMAGES.len()]; 2],
     matching: [u64; MATCHING.len()],
     mismatched: [u64; MISMATCHED.len()],
+    /// Of the first block that fails check 7.
     places: [u64; PLACES.len()],
     met: [u64; MET.len()],
 }
@@ -399,13 +398,7 @@ impl Checks {
         let (request, response) = (Block::of_request(&check.request), Block::of_response(&check.response));
         let (asked, answered) = request.zip(response).expect("both were readable");
         if let Some(at) = asked.first_miscounted(&answered) {
-            let place = match (at, answered.values.len() - 1) {
-                (0, 0) => 0,
-                (0, _) => 1,
-                (at, last) if at < last => 2,
-                _ => 3,
-            };
-            self.places[place] += 1;
+            self.places[place_among(at, answered.values.len())] += 1;
         }
         for (count, met) in self.met.iter_mut().zip(met(&asked, &answered, number == 0)) {
             *count += u64::from(met);
@@ -422,7 +415,7 @@ impl Checks {
         }
         missing.extend(unmet(&self.matching, &names(&MATCHING)).map(|name| format!("identifiers {name} pass")));
         missing.extend(unmet(&self.mismatched, &names(&MISMATCHED)).map(|name| format!("identifiers {name} fail")));
-        missing.extend(unmet(&self.places, &PLACES).map(|name| format!("number 7 by {name}")));
+        missing.extend(unmet(&self.places, &PLACES).map(|name| format!("number 7 by a block: {name}")));
         missing.extend(unmet(&self.met, &MET).map(String::from));
         missing.iter().map(|what| format!("check: {what}")).collect()
     }
@@ -438,7 +431,7 @@ impl Display for Checks {
         writeln!(f, "           made to fail, alone or two: {}", self.failing.list(&FAILING))?;
         writeln!(f, "           unreadable requests: {requests}\n           unreadable responses: {responses}")?;
         writeln!(f, "           identifiers that pass: {matching}; that fail: {mismatched}")?;
-        writeln!(f, "           number 7 by {}", named(&self.places, &PLACES))?;
+        writeln!(f, "           number 7 by a block: {}", named(&self.places, &PLACES))?;
         writeln!(f, "           {}", named(&self.met, &MET))
     }
 }

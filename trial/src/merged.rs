@@ -109,7 +109,7 @@ impl Merged {
             self.reads.add(number);
         }
         match (number, made.sender) {
-            (0, _) => self.worked.count(&made.reply[HEADER..], stored),
+            (0, _) => self.worked.count(&made.frame[HEADER..], &made.reply[HEADER..], stored),
             (4, _) => self.untaken[waits][untaken(made.frame)] += 1,
             (8, Some((owner, _))) => self.spared[owner] = waiting.to_vec(),
             _ => {}

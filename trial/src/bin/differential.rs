@@ -313,7 +313,7 @@ impl Trial {
             }
             (0, [_, _, _, _, block @ ..]) => {
                 let response = response_of(self.pair.axis(owner));
-                tally.worked.count(response, framed.stored);
+                tally.worked.count(block, response, framed.stored);
                 tally.fills.worked(block, response);
                 self.own.written(owner, block, response);
             }
