@@ -1,6 +1,6 @@
 -- Every answer to a request is a response of document 01, with the request's header, and takes at most 240 bytes.
 use mathlib.Core.Path.{_≡_, refl, sym, ap, subst, _∙_}
-use mathlib.Core.Bool.{Bool, true, false, cond, not, _||_, or-false}
+use mathlib.Core.Bool.{Bool, true, false, cond, not, _||_, or-false, and-eq-true-iff}
 use mathlib.Core.List.{List, [], _∷_}
 use mathlib.Core.Logic.{_⊎_, inl, inr}
 use mathlib.Mathlib.Data.Bool.Basic.{or-eq-false-eq-eq-false-and-eq-false as or-eq-false-iff}
@@ -25,7 +25,7 @@ use Rattle.catalogue.specs.declared.Kind.{Kind}
 use Rattle.catalogue.specs.declared.Kind.the-variants.{U8, U16, I16, I32}
 use Rattle.catalogue.specs.declared.Row.{Row}
 use Rattle.catalogue.specs.Table.{elementSize}
-use Rattle.catalogue.specs.Element.{sizeCode, typeCode}
+use Rattle.catalogue.specs.Element.{sizeCode, typeCode, inside}
 use Rattle.catalogue.proofs.Elements.{element-small}
 use Rattle.access.specs.declared.Checked.{Checked}
 use Rattle.access.specs.declared.Checked.the-variants.{Elements, Error}
@@ -34,7 +34,7 @@ use Rattle.access.specs.Read.{elementsFrom, blockSize, answerTo, readBlo
 use Rattle.access.specs.Change.{Changed, failure, allInside, success, ofElements, ofChecked, changeOne, changeAll}
 use Rattle.access.specs.Work.{Worked, answerOf, worked}
 use Rattle.access.proofs.Checks.{pick, Named, CheckedFits, checked-fits}
-use Rattle.access.specs.Laws.{SameHeader, AnswersHeader, AnswerFits, AnswerShort, AnswerReadable, AnswerAxis, blocksOf, OneEach, AnswersBlocks, AnswersIdentifier, FailureAnswered}
+use Rattle.access.specs.Laws.{Storable, SameHeader, AnswersHeader, AnswerFits, AnswerShort, AnswerReadable, AnswerAxis, blocksOf, OneEach, AnswersBlocks, AnswersIdentifier, FailureAnswered}
 
 -- a format that a parameter's values may have is as wide as its elements
 size-same : (k : Kind) → valueSize (sizeCode k) ≡ elementSize k
@@ -51,24 +51,28 @@ type-same U16 = refl
 type-same I16 = refl
 type-same I32 = refl
 
-pub format-same : (k : Kind) (f : ℕ) → eqb f (sizeCode k) || eqb f (typeCode k) ≡ true → valueSize f ≡ elementSize k
-format-same k f e =
+abbrev pub OfKind : Kind → ℕ → Type 0
+OfKind k f = (f ≡ sizeCode k) ⊎ (f ≡ typeCode k)
+
+pub of-kind : (k : Kind) (f : ℕ) → eqb f (sizeCode k) || eqb f (typeCode k) ≡ true → OfKind k f
+of-kind k f e =
     cases (eqb f (sizeCode k))
-    (λ t. ap valueSize (eqb-true f (sizeCode k) t) ∙ size-same k)
-    (λ t. ap valueSize (eqb-true f (typeCode k) (rw t at e)) ∙ type-same k)
+    (λ t. inl (eqb-true f (sizeCode k) t))
+    (λ t. inr (eqb-true f (typeCode k) (rw t at e)))
 
--- A change of one address fails, or its values are stored: then these are as many and as wide as the elements, and inside their limits.
-pub record Stores (a : Address) (b : Block) (r : Row) (n : ℕ) : Type 0 where
-  pub passed : checked a ≡ Elements r n
-  pub named : Named a r n
-  pub writable : r .writable ≡ true
-  pub format : eqb (b .format) (sizeCode (r .kind)) || eqb (b .format) (typeCode (r .kind)) ≡ true
-  pub count : length (b .values) ≡ n
-  pub inside : allInside r (b .values) ≡ true
+pub format-same : (k : Kind) (f : ℕ) → OfKind k f → valueSize f ≡ elementSize k
+format-same k f (inl e) = ap valueSize e ∙ size-same k
+format-same k f (inr e) = ap valueSize e ∙ type-same k
 
+-- the test of all values tells of each
+all-limits : (r : Row) (xs : List ℕ) → allInside r xs ≡ true → AllOf (λ x. inside r x ≡ true) xs
+all-limits r [] e = tt
+all-limits r (x ∷ xs) e = let two = and-eq-true-iff (inside r x) (allInside r xs) .0 e in (two .0, all-limits r xs (two .1))
+
+-- A change of one address fails, or all of it is stored, as it can be.
 module _ (a : Address) (b : Block) (p : List ℕ) (P : Changed → Type 0)
     (refuses : (e : ℕ) → e < 65536 → P (failure e p))
-    (stores : (r : Row) (n : ℕ) → Stores a b r n → P (success r (a .subindex) (b .values) p)) where
+    (stores : (s : Storable a b) → Named a (s .row) (s .number) → P (success (s .row) (a .subindex) (b .values) p)) where
   elements-cases : (r : Row) (n : ℕ) → checked a ≡ Elements r n → Named a r n → P (ofElements a b p r n)
   elements-cases r n s h =
       let known = eqb (b .format) (sizeCode (r .kind)) || eqb (b .format) (typeCode (r .kind)) in
@@ -78,15 +82,17 @@ module _ (a : Address) (b : Block) (p : List ℕ) (P : Changed → Type 0)
       (λ v.
       pick P (allInside r (b .values))
       (λ x.
-      stores r n
+      stores
       (record {
+        row = r;
+        number = n;
         passed = s;
-        named = h;
         writable = not-false (r .writable) t;
-        format = not-false known u;
+        format = of-kind (r .kind) (b .format) (not-false known u);
         count = eqb-true (length (b .values)) n (not-false (eqb (length (b .values)) n) v);
-        inside = x;
-      }))
+        limits = all-limits r (b .values) x;
+      })
+      h)
       (λ x. refuses 0x02 (lit< tt)))))
 
   pub change-cases : P (changeOne a b p)
@@ -97,9 +103,9 @@ module _ (a : Address) (b : Block) (p : List ℕ) (P : Changed → Type 0)
       go (Error e) s small = refuses e small
       go (Elements r n) s h = elements-cases r n s h
 
--- its values are as wide as the elements
-pub stored-small : (a : Address) (b : Block) (r : Row) (n : ℕ) → Stores a b r n → BlockFits changeBlockFits b → AllOf (λ x. x < 256 ^ elementSize (r .kind)) (b .values)
-stored-small a b r n s g = subst (λ (w : ℕ). AllOf (λ x. x < 256 ^ w) (b .values)) (format-same (r .kind) (b .format) (s .format)) (g .values)
+-- values that can be stored are as wide as the elements
+pub storable-small : (a : Address) (b : Block) (s : Storable a b) → BlockFits changeBlockFits b → AllOf (λ x. x < 256 ^ elementSize (s .row .kind)) (b .values)
+storable-small a b s g = subst (λ (w : ℕ). AllOf (λ x. x < 256 ^ w) (b .values)) (format-same (s .row .kind) (b .format) (s .format)) (g .values)
 
 -- An error word and `40 00`: they fit where they may stand, and take at most 4 bytes.
 error-fits : (id e : ℕ) → responseBlockFits id 0x44 1 ≡ true → e < 65536 → BlockFits (responseBlockFits id) (errorBlock e)
@@ -209,7 +215,7 @@ abbrev AnswerSmall : Changed → Type 0
 AnswerSmall c = Small (c .block)
 
 change-one : (a : Address) (b : Block) (p : List ℕ) → AnswerSmall (changeOne a b p)
-change-one a b p = change-cases a b p AnswerSmall small-error (λ r n s. small-empty)
+change-one a b p = change-cases a b p AnswerSmall small-error (λ s named. small-empty)
 
 change-all : (them : List Address) (bs : List Block) (p : List ℕ) (used : ℕ) → length bs ≡ length them → used + 4 * length them ≤ blockLimit → Run 0x82 used (length them) (changeAll them bs p .blocks)
 change-all [] bs p used e room = record { fits = tt; count = refl; short = omega arith }

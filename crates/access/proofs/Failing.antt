@@ -43,8 +43,8 @@ unfolding changeOne
 change-is a b p m d c e k = subst (λ (x : Checked). Did (ofChecked a b p x) m d) e k
 
 -- three tests are passed
-pub passed : (w f z : Bool) (c₁ c₂ c₃ c : Changed) → w ≡ true → f ≡ true → z ≡ true → c ≡ cond (not w) c₁ (cond (not f) c₂ (cond (not z) c₃ c))
-passed w f z c₁ c₂ c₃ c ew ef ez = rw (ew, ef, ez)
+pub three-passed : (w f z : Bool) (c₁ c₂ c₃ c : Changed) → w ≡ true → f ≡ true → z ≡ true → c ≡ cond (not w) c₁ (cond (not f) c₂ (cond (not z) c₃ c))
+three-passed w f z c₁ c₂ c₃ c ew ef ez = rw (ew, ef, ez)
 
 -- the tests of an address that names n elements of a row, with a block of format f and of k values
 module _ (a : Address) (b : Block) (p m : List ℕ) (r : Row) (n f k : ℕ) (d : Done) (ef : f ≡ b .format) (ek : k ≡ length (b .values)) where
@@ -62,5 +62,5 @@ module _ (a : Address) (b : Block) (p m : List ℕ) (r : Row) (n f k : ℕ) (d :
       pub is-stored : k ≡ n → Did (storeWhole r (a .subindex) (b .values) p) m d → Did (ofElements a b p r n) m d
       is-stored z o =
           subst (λ (c : Changed). Did c m d)
-          (passed (r .writable) (eqb (b .format) (sizeCode (r .kind)) || eqb (b .format) (typeCode (r .kind))) (eqb (length (b .values)) n) (failure 0x01 p) (failure 0x05 p) (failure 0x18 p) (storeWhole r (a .subindex) (b .values) p) w (rw (← ef) e) (eq-eqb (length (b .values)) n (sym ek ∙ z)))
+          (three-passed (r .writable) (eqb (b .format) (sizeCode (r .kind)) || eqb (b .format) (typeCode (r .kind))) (eqb (length (b .values)) n) (failure 0x01 p) (failure 0x05 p) (failure 0x18 p) (storeWhole r (a .subindex) (b .values) p) w (rw (← ef) e) (eq-eqb (length (b .values)) n (sym ek ∙ z)))
           o

@@ -1,13 +1,14 @@
 -- Each law of specs/Laws.antt that no other proof uses whole, at work on requests that are written out: one that is made weaker fails here.
 -- What a law concludes is written out too, and nothing of that is unfolded.
 use mathlib.Core.Path.{_≡_, refl, sym, ap, _∙_}
-use mathlib.Core.Bool.{true, false, true≢false}
+use mathlib.Core.Bool.{Bool, true, false, true≢false}
 use mathlib.Core.List.{List, [], _∷_, List·Memᴰ}
 use mathlib.Core.Logic.{_⊎_, inl, inr}
 use Prim.Native.Nat.{ℕ, _+_, _-_, _≤_, _<_}
 use native.Mathlib.Omega.{arith}
 use lib.Dec.{eqb, lit≤, lit<}
 use lib.ListN.{length, getD}
+use Rattle.codes.specs.Code.{AllOf}
 use Rattle.blocks.specs.Block.{Block, formatSize, valueSize, changeBlockFits}
 use Rattle.blocks.specs.Request.{Request, requestBlocks}
 use Rattle.blocks.specs.Response.{isError, hasError}
@@ -21,16 +22,16 @@ use Rattle.catalogue.specs.Element.{inside, elementOf}
 use Rattle.part.specs.Layout.{partSize}
 use Rattle.access.specs.declared.Checked.{Checked}
 use Rattle.access.specs.declared.Checked.the-variants.{Elements, Error}
-use Rattle.access.specs.Address.{checked, errorBlock}
+use Rattle.access.specs.Address.{checked, errorBlock, emptyBlock}
 use Rattle.access.specs.Read.{readBlock, readBlocks}
 use Rattle.access.specs.Change.{Changed, changeOne, changeAll}
 use Rattle.access.specs.Work.{worked}
 use Rattle.access.specs.Laws.{blocksOf, Names, StoredBy, Stored, Storable, Allowed}
 use Rattle.access.proofs.Answers.{answers-header, one-each, answers-blocks, answers-identifier, failure-answered}
 use Rattle.access.proofs.Keeps.{read-keeps, only-stored-changes}
-use Rattle.access.proofs.There.{stored-is-there, whole-or-none, answered-exactly, counts-stored, read-is-there}
+use Rattle.access.proofs.There.{answers-each, stored-is-there, whole-or-none, answered-exactly, counts-stored, read-is-there}
 
--- a change: level marks 1 and 2, then 9900, then the marks again, at their limits
+-- for changes: level marks 1 and 2, at their limits, and 9900
 marks : Address
 marks = record { attribute = 0x10; elements = 2; pnu = 30001; subindex = 1 }
 
@@ -43,15 +44,22 @@ user = record { attribute = 0x10; elements = 1; pnu = 9900; subindex = 0 }
 number : Block
 number = record { format = 0x42; values = 65535 ∷ [] }
 
-setThree : Request
-setThree = record { reference = 255; identifier = 2; axis = 1; addresses = marks ∷ user ∷ marks ∷ []; blocks = levels ∷ number ∷ levels ∷ [] }
-
--- the same, but that the last address has a mark above its limit
+-- the marks with one above its limit
 tooHigh : Block
 tooHigh = record { format = 0x42; values = 1000 ∷ 3001 ∷ [] }
 
+-- all three are stored; the last is not; the marks are not, and 9900 is
+abbrev change : List Address → List Block → Request
+change them sent = record { reference = 255; identifier = 2; axis = 1; addresses = them; blocks = sent }
+
+setThree : Request
+setThree = change (marks ∷ user ∷ marks ∷ []) (levels ∷ number ∷ levels ∷ [])
+
 setTwo : Request
-setTwo = record { reference = 255; identifier = 2; axis = 1; addresses = marks ∷ user ∷ marks ∷ []; blocks = levels ∷ number ∷ tooHigh ∷ [] }
+setTwo = change (marks ∷ user ∷ marks ∷ []) (levels ∷ number ∷ tooHigh ∷ [])
+
+setOne : Request
+setOne = change (marks ∷ user ∷ []) (tooHigh ∷ number ∷ [])
 
 -- a read of a parameter that there is not
 nowhere : Address
@@ -80,27 +88,32 @@ high-fits : BlockFits changeBlockFits tooHigh
 unfolding tooHigh changeBlockFits formatSize valueSize
 high-fits = record { format = lit< tt; number = lit< tt; allowed = refl; values = (lit< tt, (lit< tt, tt)) }
 
--- three addresses, the last with any block of values
-three-fit : (b : Block) → BlockFits changeBlockFits b → RequestFits (record { reference = 255; identifier = 2; axis = 1; addresses = marks ∷ user ∷ marks ∷ []; blocks = levels ∷ number ∷ b ∷ [] })
+change-fits :
+    (them : List Address) (sent : List Block) → AllOf AddressFits them → length sent ≡ length them → AllOf (BlockFits changeBlockFits) sent
+    → 1 ≤ length them → length them ≤ 39 → RequestFits (change them sent)
 unfolding requestBlocks
-three-fit b g =
+change-fits them sent addresses count blocks some few =
     record {
       reference = (lit≤ tt, lit≤ tt);
       identifier = (lit≤ tt, lit≤ tt);
       axis = lit< tt;
-      number = (lit≤ tt, lit≤ tt);
-      addresses = (marks-fit, (user-fits, (marks-fit, tt)));
-      count = refl;
-      blocks = (levels-fit, (number-fits, (g, tt)));
+      number = (some, few);
+      addresses = addresses;
+      count = count;
+      blocks = blocks;
     }
 
 set-fits : RequestFits setThree
 unfolding setThree
-set-fits = three-fit levels levels-fit
+set-fits = change-fits _ _ (marks-fit, (user-fits, (marks-fit, tt))) refl (levels-fit, (number-fits, (levels-fit, tt))) (lit≤ tt) (lit≤ tt)
 
 two-fit : RequestFits setTwo
 unfolding setTwo
-two-fit = three-fit tooHigh high-fits
+two-fit = change-fits _ _ (marks-fit, (user-fits, (marks-fit, tt))) refl (levels-fit, (number-fits, (high-fits, tt))) (lit≤ tt) (lit≤ tt)
+
+one-fits : RequestFits setOne
+unfolding setOne
+one-fits = change-fits _ _ (marks-fit, (user-fits, tt)) refl (high-fits, (number-fits, tt)) (lit≤ tt) (lit≤ tt)
 
 read-fits : RequestFits readNothing
 unfolding readNothing nowhere requestBlocks
@@ -115,14 +128,10 @@ read-fits =
       blocks = tt;
     }
 
--- the row that was found, and the one that an address names
-rowAt : Row → Found → Row
-rowAt q (At r) = r
-rowAt q Nothing = q
-
-rowOf : Row → Checked → Row
-rowOf q (Elements r n) = r
-rowOf q (Error e) = q
+-- whether 3001 is inside the limits of what an address names
+isIn : Checked → Bool
+isIn (Elements r n) = inside r 3001
+isIn (Error e) = false
 
 module _ (p : List ℕ) where
   -- AnswersHeader
@@ -194,39 +203,45 @@ module _ (p : List ℕ) where
   storable : Storable marks levels → isError (changeOne marks levels p .block) ≡ false
   storable = answered-exactly marks levels p .1
 
-  limits : isError (changeOne marks tooHigh p .block) ≡ false → (q : Row) → findOf 30001 ≡ At q → (inside q 1000 ≡ true) × (inside q 3001 ≡ true)
-  unfolding marks tooHigh checked findOf rows rowAt rowOf
-  limits e q f =
-      let s = answered-exactly marks tooHigh p .0 e in
-      let same : q ≡ s .row = sym (ap (rowAt q) f) ∙ ap (rowOf q) (s .passed) in
-      rw same (s .limits .0, s .limits .1 .0)
+  unstorable : isError (changeOne marks tooHigh p .block) ≡ false → ⊥
+  unfolding marks tooHigh checked findOf rows inside isIn
+  unstorable e = let s = answered-exactly marks tooHigh p .0 e in true≢false (sym (s .limits .1 .0) ∙ sym (ap isIn (s .passed)))
 
--- OnlyStoredChanges: no element but marks 1 and 2 and 9900
+  -- AnswersEach: the last of three
+  third : getD (blocksOf setTwo p) 2 emptyBlock ≡ changeOne marks tooHigh (changeAll (marks ∷ user ∷ []) (levels ∷ number ∷ []) p .part) .block
+  unfolding setTwo
+  third =
+      answers-each setTwo p refl
+      (record {
+        earlier = marks ∷ user ∷ [];
+        address = marks;
+        later = [];
+        earlierBlocks = levels ∷ number ∷ [];
+        block = tooHigh;
+        laterBlocks = [];
+        addresses = refl;
+        blocks = refl;
+        level = refl;
+      })
+
+-- OnlyStoredChanges: no element but 9900, and so no mark
 howMany : Checked → ℕ
 howMany (Elements r n) = n
 howMany (Error e) = 0
 
-abbrev Differs : Row → ℕ → Type 0
-Differs q j = (findOf 30001 ≡ At q → 1 ≤ j → j < 3 → ⊥) × (findOf 9900 ≡ At q → j < 1 → ⊥)
-
-not-marks : (q : Row) (j : ℕ) → Differs q j → Names marks q j → ⊥
-unfolding marks checked findOf rows howMany
-not-marks q j d n = let two : 2 ≡ n .number = ap howMany (n .passed) in d .0 (n .found) (n .low) (omega (arith, two, n .high))
-
-not-user : (q : Row) (j : ℕ) → Differs q j → Names user q j → ⊥
+not-user : (q : Row) (j : ℕ) → (findOf 9900 ≡ At q → j < 1 → ⊥) → Names user q j → ⊥
 unfolding user checked findOf rows howMany
-not-user q j d n = let one : 1 ≡ n .number = ap howMany (n .passed) in d .1 (n .found) (omega (arith, one, n .high))
+not-user q j d n = let one : 1 ≡ n .number = ap howMany (n .passed) in d (n .found) (omega (arith, one, n .high))
 
-others-kept : (p : List ℕ) (q : Row) → List·Memᴰ q rows → (j : ℕ) → j < q .count → Differs q j → elementOf q j (worked setThree p .part) ≡ elementOf q j p
-unfolding setThree
-others-kept p q m j few d = go (only-stored-changes setThree p set-fits .elements q m j few)
+others-kept : (p : List ℕ) (q : Row) → List·Memᴰ q rows → (j : ℕ) → j < q .count → (findOf 9900 ≡ At q → j < 1 → ⊥) → elementOf q j (worked setOne p .part) ≡ elementOf q j p
+unfolding setOne marks tooHigh changeOne checked findOf rows inside
+others-kept p q m j few d = go (only-stored-changes setOne p one-fits .elements q m j few)
   where
-    none : {c d e : Changed} → StoredBy marks c q j ⊎ (StoredBy user d q j ⊎ (StoredBy marks e q j ⊎ ⊥)) → ⊥
-    none (inl x) = not-marks q j d (x .names)
+    none : {c : Changed} → StoredBy marks (changeOne marks tooHigh p) q j ⊎ (StoredBy user c q j ⊎ ⊥) → ⊥
+    none (inl x) = true≢false (x .answered)
     none (inr (inl x)) = not-user q j d (x .names)
-    none (inr (inr (inl x))) = not-marks q j d (x .names)
 
-    go : Allowed (λ q j. (q .writable ≡ true) × Stored (setThree .addresses) (setThree .blocks) p q j) p (worked setThree p .part) q j → elementOf q j (worked setThree p .part) ≡ elementOf q j p
+    go : Allowed (λ q j. (q .writable ≡ true) × Stored (setOne .addresses) (setOne .blocks) p q j) p (worked setOne p .part) q j → elementOf q j (worked setOne p .part) ≡ elementOf q j p
     go (inl e) = e
     go (inr n) = absurd (none (n .0 .1))
 

@@ -3,7 +3,7 @@ use mathlib.Core.Path.{_≡_, refl, sym, ap, _∙_}
 use mathlib.Core.Bool.{Bool, true, false, cond, not, _&&_, _||_, true≢false, and-eq-true-iff}
 use mathlib.Core.List.{List, [], _∷_, List·Memᴰ, List·Memᴰ·head, List·Memᴰ·tail}
 use mathlib.Core.Logic.{_⊎_, inl, inr}
-use Prim.Native.Nat.{ℕ, zero, suc, _+_, _-_, _*_, _^_, _≤_, _<_}
+use Prim.Native.Nat.{ℕ, zero, suc, _+_, _-_, _^_, _≤_, _<_}
 use native.Mathlib.Decide.{decLe}
 use native.Mathlib.Omega.{arith}
 use lib.Dec.{eqb}
@@ -12,6 +12,7 @@ use lib.Seq.{drop-drop}
 use borrow.Author.Tests.{eqb-true, not-true}
 use Rattle.codes.specs.Code.{Got, got, bad, AllOf, readable}
 use Rattle.codes.specs.Number.{numberAt}
+use Rattle.codes.proofs.Number.{numbers-same}
 use Rattle.blocks.specs.Block.{Block, blockLimit, changeBlockFits}
 use Rattle.blocks.specs.Request.{Request, request}
 use Rattle.blocks.specs.Response.{response}
@@ -30,11 +31,11 @@ use Rattle.part.specs.Layout.{stateAt, lengthAt, responseAt, partSize, withResp
 use Rattle.part.specs.Record.{wordsAt}
 use Rattle.part.specs.WellFormed.{isState, everyElement, everyRow, limitsFit, fixedFit, waitingFits, unusedFit, wellFormed}
 use Rattle.part.proofs.Laws.{response-well-formed}
-use Rattle.access.specs.Change.{allInside, storeFrom, success, changeOne, changeAll}
+use Rattle.access.specs.Change.{storeFrom, success, changeOne, changeAll}
 use Rattle.access.specs.Work.{Worked, worked, Outcome, takenIf, outcomeOf}
-use Rattle.access.specs.Laws.{ReadKeeps, StoredBy, Stored, Allowed, Kept, OnlyStoredChanges, RequestKeepsWellFormed, BlockKeepsWellFormed}
-use Rattle.access.proofs.Checks.{pick}
-use Rattle.access.proofs.Answers.{Stores, change-cases, stored-small, answer-readable, answer-axis}
+use Rattle.access.specs.Laws.{ReadKeeps, StoredBy, Stored, Storable, Allowed, Kept, OnlyStoredChanges, RequestKeepsWellFormed, BlockKeepsWellFormed}
+use Rattle.access.proofs.Checks.{pick, Named}
+use Rattle.access.proofs.Answers.{change-cases, storable-small, answer-readable, answer-axis}
 
 pub read-keeps : ReadKeeps
 unfolding worked
@@ -88,13 +89,12 @@ module _ (r : Row) (m : List·Memᴰ r rows) where
       go q j (yes room) (inl s) = inr ((s .0, omega (arith, s .1), omega (arith, s .1)), rw (s .0, s .1, element-stored r i x p room small) ok)
       go q j (no n) (inl s) = inl (ap (elementOf q j) (element-unstored r i x p (omega arith)))
 
-  pub store-kept : (i : ℕ) (xs p : List ℕ) → i + length xs ≤ r .count → AllOf (λ x. x < 256 ^ elementSize (r .kind)) xs → allInside r xs ≡ true → Kept (Among r i (length xs)) p (storeFrom r i xs p)
+  pub store-kept : (i : ℕ) (xs p : List ℕ) → i + length xs ≤ r .count → AllOf (λ x. x < 256 ^ elementSize (r .kind)) xs → AllOf (λ x. inside r x ≡ true) xs → Kept (Among r i (length xs)) p (storeFrom r i xs p)
   store-kept i [] p room small ok = kept-none p
   store-kept i (x ∷ xs) p room small ok =
-      let two = and-eq-true-iff (inside r x) (allInside r xs) .0 ok in
       kept-then
-      (kept-more (λ q j a. (a .0, a .1, omega (arith, a .2))) (element-kept i x p (omega arith) (two .0) (small .0)))
-      (kept-more (λ q j a. (a .0, omega (arith, a .1), omega (arith, a .2))) (store-kept (i + 1) xs (putElement r i x p) (omega arith) (small .1) (two .1)))
+      (kept-more (λ q j a. (a .0, a .1, omega (arith, a .2))) (element-kept i x p (omega arith) (ok .0) (small .0)))
+      (kept-more (λ q j a. (a .0, omega (arith, a .1), omega (arith, a .2))) (store-kept (i + 1) xs (putElement r i x p) (omega arith) (small .1) (ok .1)))
 
 -- one address with its block of values
 abbrev Writes : (Row → ℕ → Type 0) → Row → ℕ → Type 0
@@ -103,17 +103,17 @@ Writes May q j = (q .writable ≡ true) × May q j
 change-kept : (a : Address) (b : Block) → BlockFits changeBlockFits b → (p : List ℕ) → Kept (Writes (StoredBy a (changeOne a b p))) p (changeOne a b p .part)
 change-kept a b g p = change-cases a b p (λ c. Kept (Writes (StoredBy a c)) p (c .part)) (λ e small. kept-none p) stores
   where
-    stores : (r : Row) (n : ℕ) → Stores a b r n → Kept (Writes (StoredBy a (success r (a .subindex) (b .values) p))) p (storeFrom r (a .subindex) (b .values) p)
-    stores r n s =
+    stores : (s : Storable a b) → Named a (s .row) (s .number) → let c = success (s .row) (a .subindex) (b .values) p in Kept (Writes (StoredBy a c)) p (c .part)
+    stores s named =
         kept-more
         (λ q j x. (
           rw (x .0) (s .writable),
           record {
-            names = record { found = rw (x .0) (s .named .found); number = n; passed = rw (x .0) (s .passed); low = x .1; high = omega (arith, s .count, x .2) };
+            names = record { found = rw (x .0) (named .found); number = s .number; passed = rw (x .0) (s .passed); low = x .1; high = omega (arith, s .count, x .2) };
             answered = refl;
           },
         ))
-        (store-kept r (s .named .row) (a .subindex) (b .values) p (omega (arith, s .count, s .named .room)) (stored-small a b r n s g) (s .inside))
+        (store-kept (s .row) (named .row) (a .subindex) (b .values) p (omega (arith, s .count, named .room)) (storable-small a b s g) (s .limits))
 
 pub all-kept : (them : List Address) (sent : List Block) (p : List ℕ) → AllOf (BlockFits changeBlockFits) sent → Kept (Writes (Stored them sent p)) p (changeAll them sent p .part)
 all-kept [] sent p g = kept-none p
@@ -151,12 +151,6 @@ fixed-row : (q : Row) → List·Memᴰ q rows → eqb (q .pnu) 930 || eqb (q .pn
 unfolding rows
 fixed-row q m e = not-true (q .writable) (rw e at (every-row (λ r. not (eqb (r .pnu) 930 || eqb (r .pnu) 965) || not (r .writable)) rows refl q m))
 
-words-same : (n at : ℕ) (s t : List ℕ) → ((k : ℕ) → k < n → numberAt 2 s (at + k * 2) ≡ numberAt 2 t (at + k * 2)) → wordsAt n s at ≡ wordsAt n t at
-words-same zero at s t h = refl
-words-same (suc n) at s t h =
-    let first : numberAt 2 s at ≡ numberAt 2 t at = let z : at + 0 * 2 ≡ at = omega arith in rw z at (h 0 (omega arith)) in
-    rw (first, words-same n (at + 2) s t (λ k b. let z : at + 2 + k * 2 ≡ at + suc k * 2 = omega arith in rw z (h (suc k) (omega arith))))
-
 -- only writable elements were changed, and what was changed is inside its limits
 module _ (May : Row → ℕ → Type 0) (writes : (q : Row) (j : ℕ) → May q j → q .writable ≡ true) (p after : List ℕ) (k : Kept May p after) where
   drop-beyond : (n : ℕ) → parameterBytes ≤ n → drop n after ≡ drop n p
@@ -193,7 +187,7 @@ module _ (May : Row → ℕ → Type 0) (writes : (q : Row) (j : ℕ) → May q 
   words-kept : (pnu : ℕ) (q : Row) → findOf pnu ≡ At q → elementSize (q .kind) ≡ 2 → q .writable ≡ false → wordsAt (q .count) after (offsetOf pnu) ≡ wordsAt (q .count) p (offsetOf pnu)
   unfolding elementOf offsetOf
   words-kept pnu q e two shut =
-      rw e (words-same (q .count) (q .offset) after p (λ j h. rw two at (unwritten q (found-row pnu q e) shut j h)))
+      rw e (numbers-same 2 (q .count) after p (q .offset) (λ j h. rw two at (unwritten q (found-row pnu q e) shut j h)))
 
   faults-kept : wordsAt bufferCodes after (offsetOf 947) ≡ wordsAt bufferCodes p (offsetOf 947)
   unfolding findOf rows

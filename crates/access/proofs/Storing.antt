@@ -7,7 +7,8 @@ use native.Mathlib.Omega.{arith}
 use native.Mathlib.Numerals.{sub-one}
 use lib.ListN.{length, getD, drop}
 use Rattle.codes.specs.Code.{Got}
-use Rattle.codes.specs.Number.{valueOr, numberAt}
+use Rattle.codes.specs.Number.{valueOr, numberAt, numbersAt}
+use Rattle.codes.proofs.Number.{numbers-length}
 use Rattle.blocks.specs.Block.{Block, valueSize, changeBlockFits}
 use Rattle.blocks.specs.declared.Head.{Head}
 use Rattle.blocks.proofs.Blocks.{Stood, values-inside, value-stands}
@@ -17,11 +18,11 @@ use Rattle.catalogue.specs.Element.{inside, putElement}
 use Rattle.access.specs.declared.change.Done.{Done}
 use Rattle.access.specs.Address.{emptyBlock}
 use Rattle.access.specs.Change.{allInside, storeFrom, storeWhole}
-use Rattle.access.specs.Walk.{blockIn, valuesAt, Did}
+use Rattle.access.specs.Walk.{blockIn, Did}
 use Rattle.access.proofs.Failing.{did-fail}
 
 -- values that are each where they should be
-values-are : (w n : ℕ) (s : List ℕ) (at : ℕ) (vs : List ℕ) → length vs ≡ n → ((j : ℕ) → j < n → numberAt w s (at + j * w) ≡ getD vs j 0) → valuesAt w n s at ≡ vs
+values-are : (w n : ℕ) (s : List ℕ) (at : ℕ) (vs : List ℕ) → length vs ≡ n → ((j : ℕ) → j < n → numberAt w s (at + j * w) ≡ getD vs j 0) → numbersAt w n s at ≡ vs
 values-are w zero s at [] e each = refl
 values-are w zero s at (x ∷ xs) e each = absurd (omega arith)
 values-are w (suc n) s at [] e each = absurd (omega arith)
@@ -42,16 +43,16 @@ module _ (s : List ℕ) (at : ℕ) (h : Head) (b : Stood changeBlockFits s at h)
       let e : n * w ≡ length (b .it .values) * valueSize (b .it .format) = ap (λ (k : ℕ). k * w) count ∙ ap (λ (k : ℕ). length (b .it .values) * k) width in
       omega (arith, e, values-inside changeBlockFits s at (b .it) (drop (h .next) s) (b .read))
 
-  pub values-stand : valuesAt w n s (at + 2) ≡ blockIn s at .values
+  pub values-stand : numbersAt w n s (at + 2) ≡ blockIn s at .values
   values-stand =
-      ap (λ (k : ℕ). valuesAt w k s (at + 2)) count
-      ∙ (ap (λ (k : ℕ). valuesAt k (length (b .it .values)) s (at + 2)) width
+      ap (λ (k : ℕ). numbersAt w k s (at + 2)) count
+      ∙ (ap (λ (k : ℕ). numbersAt k (length (b .it .values)) s (at + 2)) width
       ∙ (values-are (valueSize (b .it .format)) (length (b .it .values)) s (at + 2) (b .it .values) refl
       (λ j k. value-stands changeBlockFits s at (b .it) (drop (h .next) s) j (b .read) k)
       ∙ ap (λ (g : Got Block). valueOr emptyBlock g .values) (sym (b .read))))
 
 -- one value more
-values-next : (w left : ℕ) (s : List ℕ) (at : ℕ) → 0 < left → valuesAt w left s at ≡ numberAt w s at ∷ valuesAt w (left - 1) s (at + w)
+values-next : (w left : ℕ) (s : List ℕ) (at : ℕ) → 0 < left → numbersAt w left s at ≡ numberAt w s at ∷ numbersAt w (left - 1) s (at + w)
 values-next w zero s at h = absurd (omega arith)
 values-next w (suc left) s at h = rw sub-one
 
@@ -59,27 +60,23 @@ pub room-next : (w left at : ℕ) (s : List ℕ) → 0 < left → at + left * w 
 room-next w zero at s h room = absurd (omega arith)
 room-next w (suc left) at s h room = rw sub-one (omega arith)
 
-values-count : (w n : ℕ) (s : List ℕ) (at : ℕ) → length (valuesAt w n s at) ≡ n
-values-count w zero s at = refl
-values-count w (suc n) s at = ap suc (values-count w n s (at + w))
-
 -- The loop that tests: what is left to test from where it stands decides as all of them do.
 pub record Testing (r : Row) (w n : ℕ) (s : List ℕ) (at₀ at left : ℕ) : Type 0 where
   pub room : at + left * w ≤ length s
-  pub todo : allInside r (valuesAt w left s at) ≡ allInside r (valuesAt w n s at₀)
+  pub todo : allInside r (numbersAt w left s at) ≡ allInside r (numbersAt w n s at₀)
 
 module _ (r : Row) (w n : ℕ) (s : List ℕ) (at₀ at left : ℕ) (c : Testing r w n s at₀ at left) where
   module _ (x : ℕ) (h : 0 < left) (e : x ≡ numberAt w s at) where
-    here : inside r x && allInside r (valuesAt w (left - 1) s (at + w)) ≡ allInside r (valuesAt w n s at₀)
+    here : inside r x && allInside r (numbersAt w (left - 1) s (at + w)) ≡ allInside r (numbersAt w n s at₀)
     here = rw e (ap (allInside r) (sym (values-next w left s at h)) ∙ c .todo)
 
     pub test-next : inside r x ≡ true → Testing r w n s at₀ (at + w) (left - 1)
     test-next t = record { room = room-next w left at s h (c .room); todo = rw t at here }
 
-    pub test-stop : inside r x ≡ false → false ≡ allInside r (valuesAt w n s at₀)
+    pub test-stop : inside r x ≡ false → false ≡ allInside r (numbersAt w n s at₀)
     test-stop t = rw t at here
 
-  pub test-end : left ≡ 0 → true ≡ allInside r (valuesAt w n s at₀)
+  pub test-end : left ≡ 0 → true ≡ allInside r (numbersAt w n s at₀)
   test-end e = rw e at (c .todo)
 
 -- The loop that stores: what is left to store from where it stands is what was to be stored at first.
@@ -87,7 +84,7 @@ pub record Storing (r : Row) (w n : ℕ) (s : List ℕ) (at₀ i : ℕ) (p₀ p 
   pub room : at + left * w ≤ length s
   pub few : to + left ≤ bufferCodes
   pub size : length p ≡ length p₀
-  pub todo : storeFrom r to (valuesAt w left s at) p ≡ storeFrom r i (valuesAt w n s at₀) p₀
+  pub todo : storeFrom r to (numbersAt w left s at) p ≡ storeFrom r i (numbersAt w n s at₀) p₀
 
 module _ (r : Row) (w n : ℕ) (s : List ℕ) (at₀ i : ℕ) (p₀ p : List ℕ) (at to left : ℕ) (c : Storing r w n s at₀ i p₀ p at to left) where
   pub store-next : (x : ℕ) (m : List ℕ) → 0 < left → x ≡ numberAt w s at → m ≡ putElement r to x p → length m ≡ length p → Storing r w n s at₀ i p₀ m (at + w) (to + 1) (left - 1)
@@ -99,14 +96,14 @@ module _ (r : Row) (w n : ℕ) (s : List ℕ) (at₀ i : ℕ) (p₀ p : List ℕ
         todo = rw (q, e) (ap (λ (xs : List ℕ). storeFrom r to xs p) (sym (values-next w left s at h)) ∙ c .todo);
       }
 
-  pub store-end : left ≡ 0 → p ≡ storeFrom r i (valuesAt w n s at₀) p₀
+  pub store-end : left ≡ 0 → p ≡ storeFrom r i (numbersAt w n s at₀) p₀
   store-end e = rw e at (c .todo)
 
 -- all were tested, and so all are stored
-pub whole-stored : (r : Row) (i w n : ℕ) (s : List ℕ) (at : ℕ) (p m : List ℕ) → n ≤ bufferCodes → true ≡ allInside r (valuesAt w n s at) → m ≡ storeFrom r i (valuesAt w n s at) p
-    → Did (storeWhole r i (valuesAt w n s at) p) m (record { failed = false; error = 0; stored = n })
-whole-stored r i w n s at p m few t e = rw (← t) (record { block = refl; part = e; stored = sym (values-count w n s at); few = few })
+pub whole-stored : (r : Row) (i w n : ℕ) (s : List ℕ) (at : ℕ) (p m : List ℕ) → n ≤ bufferCodes → true ≡ allInside r (numbersAt w n s at) → m ≡ storeFrom r i (numbersAt w n s at) p
+    → Did (storeWhole r i (numbersAt w n s at) p) m (record { failed = false; error = 0; stored = n })
+whole-stored r i w n s at p m few t e = rw (← t) (record { block = refl; part = e; stored = sym (numbers-length w n s at); few = few })
 
-pub none-stored : (r : Row) (i w n : ℕ) (s : List ℕ) (at : ℕ) (p : List ℕ) (d : Done) → false ≡ allInside r (valuesAt w n s at) → d ≡ record { failed = true; error = 0x02; stored = 0 }
-    → Did (storeWhole r i (valuesAt w n s at) p) p d
+pub none-stored : (r : Row) (i w n : ℕ) (s : List ℕ) (at : ℕ) (p : List ℕ) (d : Done) → false ≡ allInside r (numbersAt w n s at) → d ≡ record { failed = true; error = 0x02; stored = 0 }
+    → Did (storeWhole r i (numbersAt w n s at) p) p d
 none-stored r i w n s at p d t e = rw (← t) (did-fail 0x02 p d e)

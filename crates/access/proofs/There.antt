@@ -1,52 +1,51 @@
--- What a change stored is there when it is over, where no later address names it; an address without an error stored all; what is
--- read is there.
+-- What an address stored is there when the change is over, where no later one stored it again; an address is stored whole or not at all,
+-- exactly when it can be, and answered and counted so; what is read is there.
 use mathlib.Core.Path.{_≡_, refl, sym, ap, subst, _∙_}
 use mathlib.Core.Bool.{true, false, _||_, or-true, true≢false, and-eq-true-iff}
 use mathlib.Core.List.{List, [], _∷_, _++_, List·Memᴰ}
-use mathlib.Core.Logic.{_⊎_, inl, inr}
+use mathlib.Core.Logic.{inl, inr}
 use Prim.Native.Nat.{ℕ, zero, suc, _+_, _-_, _*_, _^_, _≤_, _<_}
 use native.Mathlib.Omega.{arith}
 use lib.Dec.{eqb, leb}
 use lib.ListN.{length, getD}
-use borrow.Author.Tests.{eqb-true, eq-eqb}
+use borrow.Author.Tests.{eq-eqb}
 use borrow.Table.Steps.{cases}
 use Rattle.codes.specs.Code.{AllOf}
 use Rattle.blocks.specs.Block.{Block, blockLimit, changeBlockFits}
 use Rattle.blocks.specs.Response.{isError}
 use Rattle.blocks.specs.Page.{BlockFits}
 use Rattle.blocks.specs.declared.reader.Address.{Address}
+use Rattle.catalogue.specs.declared.Kind.{Kind}
 use Rattle.catalogue.specs.declared.Row.{Row}
 use Rattle.catalogue.specs.Table.{rows, parameterBytes, elementSize}
 use Rattle.catalogue.specs.Element.{sizeCode, typeCode, inside, elementOf, putElement}
 use Rattle.catalogue.proofs.Elements.{element-length, element-stored}
 use Rattle.catalogue.proofs.Rows.{found-row, element-inside}
 use Rattle.access.specs.declared.Checked.the-variants.{Elements}
+use Rattle.access.specs.Address.{emptyBlock}
 use Rattle.access.specs.Read.{elementsFrom, blockSize, readBlock}
 use Rattle.access.specs.Change.{Changed, failure, allInside, storeFrom, success, changeOne, changeAll}
 use Rattle.access.specs.Work.{worked}
-use Rattle.access.specs.Laws.{Names, Stored, Storable, comesTo, storedOf, Allowed, ReadIsThere, StoredIsThere, WholeOrNone, AnsweredExactly, CountsStored}
-use Rattle.access.proofs.Checks.{pick}
+use Rattle.access.specs.Laws.{Names, Stored, Storable, comesTo, storedOf, Allowed, ReadIsThere, AnswersEach, StoredIsThere, WholeOrNone, AnsweredExactly, CountsStored}
+use Rattle.access.proofs.Checks.{pick, Named}
 use Rattle.access.proofs.Lengths.{change-length}
-use Rattle.access.proofs.Failing.{passed}
-use Rattle.access.proofs.Answers.{Stores, change-cases, stored-small}
+use Rattle.access.proofs.Failing.{three-passed}
+use Rattle.access.proofs.Answers.{OfKind, change-cases, storable-small}
 use Rattle.access.proofs.Keeps.{Among, store-kept, all-kept}
 
 -- the values of one address: each is there
 store-there :
     (r : Row) → List·Memᴰ r rows → (i : ℕ) (xs p : List ℕ) → i + length xs ≤ r .count → parameterBytes ≤ length p
-    → AllOf (λ x. x < 256 ^ elementSize (r .kind)) xs → allInside r xs ≡ true
+    → AllOf (λ x. x < 256 ^ elementSize (r .kind)) xs → AllOf (λ x. inside r x ≡ true) xs
     → (k : ℕ) → k < length xs → elementOf r (i + k) (storeFrom r i xs p) ≡ getD xs k 0
 store-there r m i [] p room long small ok k h = absurd (omega arith)
-store-there r m i (x ∷ xs) p room long small ok k h = go k (store-there r m (i + 1) xs after (omega arith) kept (small .1) rest) (omega arith)
+store-there r m i (x ∷ xs) p room long small ok k h = go k (store-there r m (i + 1) xs after (omega arith) kept (small .1) (ok .1)) (omega arith)
   where
     after : List ℕ
     after = putElement r i x p
 
     kept : parameterBytes ≤ length after
     kept = subst (λ (n : ℕ). parameterBytes ≤ n) (sym (element-length r i x p)) long
-
-    rest : allInside r xs ≡ true
-    rest = and-eq-true-iff (inside r x) (allInside r xs) .0 ok .1
 
     first : Allowed (Among r (i + 1) (length xs)) after (storeFrom r (i + 1) xs after) r i → elementOf r i (storeFrom r (i + 1) xs after) ≡ x
     first (inl e) = e ∙ element-stored r i x p (omega (arith, element-inside r m i (omega arith))) (small .0)
@@ -57,7 +56,7 @@ store-there r m i (x ∷ xs) p room long small ok k h = go k (store-there r m (i
         → k < 1 + length xs → elementOf r (i + k) (storeFrom r (i + 1) xs after) ≡ getD (x ∷ xs) k 0
     go zero more h =
         let z : i + 0 ≡ i = omega arith in
-        rw z (first (store-kept r m (i + 1) xs after (omega arith) (small .1) rest .elements r m i (omega arith)))
+        rw z (first (store-kept r m (i + 1) xs after (omega arith) (small .1) (ok .1) .elements r m i (omega arith)))
     go (suc j) more h =
         let z : i + suc j ≡ i + 1 + j = omega arith in
         rw z (more j (omega arith))
@@ -71,16 +70,16 @@ module _ (a : Address) (b : Block) (g : BlockFits changeBlockFits b) (p : List �
   unfolding There
   change-there = change-cases a b p There (λ x small e. absurd (true≢false e)) stores
     where
-      stores : (r : Row) (n : ℕ) → Stores a b r n → There (success r (a .subindex) (b .values) p)
-      stores r n s e =
-          let same : Elements q (named .number) ≡ Elements r n = sym (named .passed) ∙ s .passed in
-          let row : q ≡ r = cc in
-          let number : named .number ≡ n = cc in
+      stores : (s : Storable a b) → Named a (s .row) (s .number) → There (success (s .row) (a .subindex) (b .values) p)
+      stores s n e =
+          let same : Elements q (named .number) ≡ Elements (s .row) (s .number) = sym (named .passed) ∙ s .passed in
+          let row : q ≡ s .row = cc in
+          let number : named .number ≡ s .number = cc in
           let place : a .subindex + (j - a .subindex) ≡ j = omega (arith, named .low) in
           let there =
-          store-there r (s .named .row) (a .subindex) (b .values) p (omega (arith, s .count, s .named .room)) long (stored-small a b r n s g) (s .inside) (j - a .subindex)
+          store-there (s .row) (n .row) (a .subindex) (b .values) p (omega (arith, s .count, n .room)) long (storable-small a b s g) (s .limits) (j - a .subindex)
           (omega (arith, number, named .low, named .high, s .count)) in
-          rw row (omega (arith, number, named .high, s .named .room), rw place at there)
+          rw row (omega (arith, number, named .high, n .room), rw place at there)
 
 -- addresses and blocks, one after the other
 change-then :
@@ -117,53 +116,44 @@ whole-or-none a b p =
     change-cases a b p
     (λ c. (isError (c .block) ≡ false → c .stored ≡ length (b .values)) × (isError (c .block) ≡ true → (c .stored ≡ 0) × (c .part ≡ p)))
     (λ x small. ((λ e. absurd (true≢false e)), (λ e. (refl, refl))))
-    (λ r n s. ((λ e. refl), (λ e. absurd (true≢false (sym e)))))
+    (λ s named. ((λ e. refl), (λ e. absurd (true≢false (sym e)))))
 
--- all values inside the limits, one by one and by the test
-all-limits : (r : Row) (xs : List ℕ) → allInside r xs ≡ true → AllOf (λ x. inside r x ≡ true) xs
-all-limits r [] e = tt
-all-limits r (x ∷ xs) e = let two = and-eq-true-iff (inside r x) (allInside r xs) .0 e in (two .0, all-limits r xs (two .1))
-
+-- the tests pass an address that can be stored
 limits-all : (r : Row) (xs : List ℕ) → AllOf (λ x. inside r x ≡ true) xs → allInside r xs ≡ true
 limits-all r [] h = refl
 limits-all r (x ∷ xs) h = and-eq-true-iff (inside r x) (allInside r xs) .1 (h .0, limits-all r xs (h .1))
 
+is-kind : (k : Kind) (f : ℕ) → OfKind k f → eqb f (sizeCode k) || eqb f (typeCode k) ≡ true
+is-kind k f (inl e) = rw (eq-eqb f (sizeCode k) e)
+is-kind k f (inr e) = rw (eq-eqb f (typeCode k) e, or-true)
+
 pub answered-exactly : AnsweredExactly
 unfolding changeOne
-answered-exactly a b p = (storable, answers)
+answered-exactly a b p = (
+  change-cases a b p (λ c. isError (c .block) ≡ false → Storable a b) (λ x small e. absurd (true≢false e)) (λ s named e. s),
+  answers,
+)
   where
-    either-format : (r : Row) → eqb (b .format) (sizeCode (r .kind)) || eqb (b .format) (typeCode (r .kind)) ≡ true → (b .format ≡ sizeCode (r .kind)) ⊎ (b .format ≡ typeCode (r .kind))
-    either-format r e =
-        cases (eqb (b .format) (sizeCode (r .kind)))
-        (λ t. inl (eqb-true (b .format) (sizeCode (r .kind)) t))
-        (λ t. inr (eqb-true (b .format) (typeCode (r .kind)) (rw t at e)))
-
-    is-either : (r : Row) → (b .format ≡ sizeCode (r .kind)) ⊎ (b .format ≡ typeCode (r .kind)) → eqb (b .format) (sizeCode (r .kind)) || eqb (b .format) (typeCode (r .kind)) ≡ true
-    is-either r (inl e) = rw (eq-eqb (b .format) (sizeCode (r .kind)) e)
-    is-either r (inr e) = rw (eq-eqb (b .format) (typeCode (r .kind)) e, or-true)
-
-    storable : isError (changeOne a b p .block) ≡ false → Storable a b
-    storable =
-        change-cases a b p (λ c. isError (c .block) ≡ false → Storable a b)
-        (λ x small e. absurd (true≢false e))
-        (λ r n s e.
-        record {
-          row = r;
-          number = n;
-          passed = s .passed;
-          writable = s .writable;
-          format = either-format r (s .format);
-          count = s .count;
-          limits = all-limits r (b .values) (s .inside);
-        })
-
     answers : Storable a b → isError (changeOne a b p .block) ≡ false
     answers s =
-        let r = s .row in
+        let k = s .row .kind in
         rw (s .passed)
         (sym (ap (λ (c : Changed). isError (c .block))
-        (passed (r .writable) (eqb (b .format) (sizeCode (r .kind)) || eqb (b .format) (typeCode (r .kind))) (eqb (length (b .values)) (s .number)) (failure 0x01 p) (failure 0x05 p) (failure 0x18 p) _ (s .writable) (is-either r (s .format)) (eq-eqb (length (b .values)) (s .number) (s .count))))
-        ∙ rw (limits-all r (b .values) (s .limits)))
+        (three-passed (s .row .writable) (eqb (b .format) (sizeCode k) || eqb (b .format) (typeCode k)) (eqb (length (b .values)) (s .number)) (failure 0x01 p) (failure 0x05 p) (failure 0x18 p) _ (s .writable) (is-kind k (b .format) (s .format)) (eq-eqb (length (b .values)) (s .number) (s .count))))
+        ∙ rw (limits-all (s .row) (b .values) (s .limits)))
+
+-- each in its place
+answers-at :
+    (xs : List Address) (a : Address) (ys : List Address) (bs : List Block) (b : Block) (cs : List Block) (p : List ℕ) → length bs ≡ length xs
+    → getD (changeAll (xs ++ (a ∷ ys)) (bs ++ (b ∷ cs)) p .blocks) (length xs) emptyBlock ≡ changeOne a b (changeAll xs bs p .part) .block
+answers-at [] a ys [] b cs p e = refl
+answers-at [] a ys (c ∷ bs) b cs p e = absurd (omega arith)
+answers-at (x ∷ xs) a ys [] b cs p e = absurd (omega arith)
+answers-at (x ∷ xs) a ys (c ∷ bs) b cs p e = answers-at xs a ys bs b cs (changeOne x c p .part) (omega arith)
+
+pub answers-each : AnswersEach
+answers-each r p two t =
+    rw (two, t .addresses, t .blocks) (answers-at (t .earlier) (t .address) (t .later) (t .earlierBlocks) (t .block) (t .laterBlocks) p (t .level))
 
 -- the count of all addresses
 counts-all : (them : List Address) (bs : List Block) (p : List ℕ) → changeAll them bs p .stored ≡ storedOf bs (changeAll them bs p .blocks)

@@ -26,11 +26,12 @@ abbrev pub allInside : Row → List ℕ → Bool
 allInside r [] = true
 allInside r (x ∷ xs) = inside r x && allInside r xs
 
--- the values stored in a row's elements, from element i on
+-- the part with the values stored in a row's elements, from element i on
 abbrev pub storeFrom : Row → ℕ → List ℕ → List ℕ → List ℕ
 storeFrom r i [] p = p
 storeFrom r i (x ∷ xs) p = storeFrom r (i + 1) xs (putElement r i x p)
 
+-- all of an address stored, and counted
 abbrev pub success : Row → ℕ → List ℕ → List ℕ → Changed
 success r i xs p = record { block = emptyBlock; part = storeFrom r i xs p; stored = length xs }
 

@@ -22,7 +22,7 @@ use Rattle.catalogue.specs.Element.{sizeCode, typeCode, inside, elementOf}
 use Rattle.part.specs.Layout.{partSize}
 use Rattle.part.specs.WellFormed.{wellFormed}
 use Rattle.access.specs.declared.Checked.the-variants.{Elements}
-use Rattle.access.specs.Address.{checked}
+use Rattle.access.specs.Address.{checked, emptyBlock}
 use Rattle.access.specs.Read.{readBlock, readBlocks}
 use Rattle.access.specs.Change.{Changed, changeOne, changeAll}
 use Rattle.access.specs.Work.{worked, outcomeOf}
@@ -141,6 +141,12 @@ pub record Turn (r : Request) : Type 0 where
 -- what that address comes to, on the part that those before it left
 abbrev pub comesTo : (r : Request) → Turn r → List ℕ → Changed
 comesTo r t p = changeOne (t .address) (t .block) (changeAll (t .earlier) (t .earlierBlocks) p .part)
+
+-- each address is answered, in its place, by the block that it comes to
+abbrev pub AnswersEach : Type 0
+AnswersEach =
+    (r : Request) (p : List ℕ) → r .identifier ≡ 2
+    → (t : Turn r) → getD (blocksOf r p) (length (t .earlier)) emptyBlock ≡ comesTo r t p .block
 
 -- What is stored is there: an element that an address stored, and no later one of the change did, reads back as the value sent.
 abbrev pub StoredIsThere : Type 0

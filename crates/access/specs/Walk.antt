@@ -1,11 +1,11 @@
 -- What the steps of the code leave, said of the definitions. No contract of a public function cites this page.
 use mathlib.Core.Path.{_≡_}
 use mathlib.Core.Bool.{cond}
-use mathlib.Core.List.{List, [], _∷_}
-use Prim.Native.Nat.{ℕ, zero, suc, _+_, _≤_}
+use mathlib.Core.List.{List, []}
+use Prim.Native.Nat.{ℕ, _+_, _≤_}
 use lib.ListN.{length, drop}
 use Rattle.codes.specs.Code.{readTimes, writeAll}
-use Rattle.codes.specs.Number.{valueOr, numberAt, put}
+use Rattle.codes.specs.Number.{valueOr, put}
 use Rattle.drive.specs.Faults.{bufferCodes}
 use Rattle.blocks.specs.Block.{Block, changeBlockFits, block}
 use Rattle.blocks.specs.Page.{blockBytes}
@@ -37,11 +37,6 @@ blockIn s at = valueOr emptyBlock (block changeBlockFits .read (drop at s))
 
 abbrev pub blocksIn : ℕ → List ℕ → ℕ → List Block
 blocksIn n s at = valueOr [] (readTimes (block changeBlockFits .read) n (drop at s))
-
--- n values in a row, of w bytes each, from a place on
-abbrev pub valuesAt : ℕ → ℕ → List ℕ → ℕ → List ℕ
-valuesAt w zero s at = []
-valuesAt w (suc n) s at = numberAt w s at ∷ valuesAt w n s (at + w)
 
 -- how an address of a change is answered
 abbrev pub answerIn : Done → Block

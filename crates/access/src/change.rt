@@ -5,6 +5,7 @@ ghost use Prim.Native.Nat.{_+_, _*_, _≤_};
 ghost use lib.Dec.{eqb};
 ghost use lib.ListN.{length};
 ghost use Rattle.codes.specs.Code.{readable};
+ghost use Rattle.codes.specs.Number.{numbersAt};
 ghost use Rattle.drive.specs.Faults.{bufferCodes};
 ghost use Rattle.blocks.specs.Block.{blockLimit};
 ghost use Rattle.blocks.specs.Request.{request};
@@ -13,7 +14,7 @@ ghost use Rattle.blocks.specs.declared.BlockAt.the-variants.{Stands};
 ghost use Rattle.catalogue.specs.Element.{sizeCode, typeCode};
 ghost use Rattle.access.specs.Change.{allInside, storeFrom, storeWhole, ofElements, changeOne, changeAll};
 ghost use Rattle.access.specs.Work.{workedChange};
-ghost use Rattle.access.specs.Walk.{blockIn, blocksIn, valuesAt, answerIn, Did, DidAll, Wrote, requestIn, respondedPart};
+ghost use Rattle.access.specs.Walk.{blockIn, blocksIn, answerIn, Did, DidAll, Wrote, requestIn, respondedPart};
 use super::Checked;
 use super::reply;
 use super::reply::Written;
@@ -67,7 +68,7 @@ fn is_format(k: Kind, f: u8) -> bool
 // Whether all values are inside the limits of a row.
 fn all_inside(r: Row, block: &[u8], v: Values) -> bool
     requires { ⌜ v .at + v .count * v .size ≤ length (now block) ⌝ }
-    ensures { λ b. ⌜ b ≡ allInside r (valuesAt (v .size) (v .count) (now (block .entry)) (v .at)) ⌝ }
+    ensures { λ b. ⌜ b ≡ allInside r (numbersAt (v .size) (v .count) (now (block .entry)) (v .at)) ⌝ }
 {
     let mut at = v.at;
     let mut untested = v.count;
@@ -85,7 +86,7 @@ fn all_inside(r: Row, block: &[u8], v: Values) -> bool
 // Stores the values in the elements of a row, from element i on.
 fn store(part: &mut [u8], r: Row, i: u16, block: &[u8], v: Values)
     requires { ⌜ (i + v .count ≤ bufferCodes) × (v .at + v .count * v .size ≤ length (now block)) ⌝ }
-    ensures { λ q. ⌜ now (part .exit) ≡ storeFrom r i (valuesAt (v .size) (v .count) (now (block .entry)) (v .at)) (now (part .entry)) ⌝ }
+    ensures { λ q. ⌜ now (part .exit) ≡ storeFrom r i (numbersAt (v .size) (v .count) (now (block .entry)) (v .at)) (now (part .entry)) ⌝ }
 {
     let mut at = v.at;
     let mut to = i;
@@ -99,10 +100,10 @@ fn store(part: &mut [u8], r: Row, i: u16, block: &[u8], v: Values)
     }
 }
 
-// Stores the values so, where all are inside the limits; else none.
+// Stores all values in the elements of a row, from element i on, where all are inside its limits; else none, and that is 0x02.
 fn store_whole(part: &mut [u8], r: Row, i: u16, block: &[u8], v: Values) -> Done
     requires { ⌜ (i + v .count ≤ bufferCodes) × (v .at + v .count * v .size ≤ length (now block)) ⌝ }
-    ensures { λ d. ⌜ Did (storeWhole r i (valuesAt (v .size) (v .count) (now (block .entry)) (v .at)) (now (part .entry))) (now (part .exit)) d ⌝ }
+    ensures { λ d. ⌜ Did (storeWhole r i (numbersAt (v .size) (v .count) (now (block .entry)) (v .at)) (now (part .entry))) (now (part .exit)) d ⌝ }
 {
     if !all_inside(r, block, v) {
         return fail(0x02);

@@ -1,8 +1,8 @@
--- Numbers at a place: how large they are, where there are none, and that what is put is got back and no other changes.
+-- Numbers at a place: how large they are, where there are none, that what is put is got back and no other changes, and numbers in turn.
 use mathlib.Core.Path.{_≡_, refl, sym, _∙_, ap}
 use mathlib.Core.Bool.{Bool, true, false, cond}
 use mathlib.Core.List.{List, [], _++_, append-nil, append-assoc}
-use Prim.Native.Nat.{ℕ, zero, suc, _+_, _≤_, _<_, _^_}
+use Prim.Native.Nat.{ℕ, zero, suc, _+_, _*_, _≤_, _<_, _^_}
 use native.Mathlib.Omega.{arith}
 use native.Mathlib.Nat.{one-le-pow, zero-add}
 use native.Mathlib.Decide.{decLe}
@@ -11,7 +11,7 @@ use lib.Seq.{length-take-le, take-at, drop-at, drop-append-le, drop-drop}
 use lib.Dec.{leb}
 use borrow.Author.Tests.{le-leb, lt-leb}
 use Rattle.codes.specs.Code.{Got, got, bad, Code, word}
-use Rattle.codes.specs.Number.{valueOr, numberAt, put}
+use Rattle.codes.specs.Number.{valueOr, numberAt, numbersAt, put}
 use Rattle.codes.proofs.Sound.{Sound, not-got, word-sound, word-valid, valid-word}
 use Rattle.codes.proofs.Fixed.{Bytes, byte-at, fixed-word}
 use Rattle.codes.proofs.Put.{word-length, put-fits, put-too-long, put-drop}
@@ -116,3 +116,14 @@ module _ (w : ℕ) (l : List ℕ) (at : ℕ) (bs : List ℕ) (k : ℕ) where
           ∙ (number-front w k (take at l) (bs ++ drop (at + length bs) l) (drop at l) (omega (arith, length-take-le at l (omega arith)))
           ∙ ap (λ (m : List ℕ). numberAt w m k) (take-append-drop at l))
       go (no n) = ap (λ (m : List ℕ). numberAt w m k) (put-too-long l at bs (omega arith))
+
+-- numbers one after the other: how many there are, and that two lists have the same where each is the same
+pub numbers-length : (w n : ℕ) (s : List ℕ) (at : ℕ) → length (numbersAt w n s at) ≡ n
+numbers-length w zero s at = refl
+numbers-length w (suc n) s at = ap suc (numbers-length w n s (at + w))
+
+pub numbers-same : (w n : ℕ) (s t : List ℕ) (at : ℕ) → ((i : ℕ) → i < n → numberAt w s (at + i * w) ≡ numberAt w t (at + i * w)) → numbersAt w n s at ≡ numbersAt w n t at
+numbers-same w zero s t at h = refl
+numbers-same w (suc n) s t at h =
+    let first : numberAt w s at ≡ numberAt w t at = let z : at + 0 * w ≡ at = omega arith in rw z at (h 0 (omega arith)) in
+    rw (first, numbers-same w n s t (at + w) (λ i k. let z : at + w + i * w ≡ at + suc i * w = omega arith in rw z (h (suc i) (omega arith))))

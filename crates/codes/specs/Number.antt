@@ -1,7 +1,7 @@
 -- Document 01, "numbers high byte first": numbers at a place of a list of bytes, signed ones included, one treatment for every width.
-use mathlib.Core.List.{List, _++_}
+use mathlib.Core.List.{List, [], _∷_, _++_}
 use mathlib.Core.Bool.{cond}
-use Prim.Native.Nat.{ℕ, suc, _+_, _-_, _/_, _^_}
+use Prim.Native.Nat.{ℕ, zero, suc, _+_, _-_, _/_, _^_}
 use lib.ListN.{length, take, drop}
 use lib.Dec.{leb, ltb}
 use lib.IntN.{ℤ, pos, negsuc, _-ℤ_}
@@ -15,6 +15,11 @@ valueOr d bad = d
 -- the number in the w bytes, four at most, from place at on; 0 where these do not all stand in the list
 unfoldable pub numberAt : ℕ → List ℕ → ℕ → ℕ
 numberAt w s at = cond (leb w 4) (valueOr 0 (word w .read (drop at s))) 0
+
+-- n such numbers, one after the other
+abbrev pub numbersAt : ℕ → ℕ → List ℕ → ℕ → List ℕ
+numbersAt w zero s at = []
+numbersAt w (suc n) s at = numberAt w s at ∷ numbersAt w n s (at + w)
 
 -- the list l with the bytes bs over its own from place at on; l itself where they do not all fit
 unfoldable pub put : List ℕ → ℕ → List ℕ → List ℕ

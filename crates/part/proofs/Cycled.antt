@@ -8,7 +8,7 @@ use lib.Dec.{eqb, lit≤, lit<}
 use lib.ListN.{take, set, replicate}
 use mir.Syntax.{w16}
 use Rattle.codes.specs.Number.{numberAt, signedOf}
-use Rattle.codes.proofs.Number.{number-small}
+use Rattle.codes.proofs.Number.{number-small, numbers-length}
 use Rattle.codes.proofs.Signed.{Within, signed-fits}
 use Rattle.drive.specs.declared.states.State.{State}
 use Rattle.drive.specs.declared.states.State.the-variants.{S1, S2, S3, S4, S51, S52}
@@ -23,7 +23,7 @@ use Rattle.drive.proofs.Laws.{keeps-length}
 use Rattle.catalogue.specs.Table.{offsetOf}
 use Rattle.part.specs.Layout.{effectiveAt}
 use Rattle.part.specs.Record.{wordsAt, driveOf}
-use Rattle.part.proofs.Words.{Words, words-length}
+use Rattle.part.proofs.Words.{Words}
 use Rattle.part.proofs.Stored.{Fits}
 
 -- a cycle's input whose words and speeds are of 16 bits
@@ -52,7 +52,7 @@ loaded-fits p =
       actual = speed-fits p (offsetOf 10103);
       counter = number-small 2 p (offsetOf 944);
       codes = words-fit bufferCodes p (offsetOf 947);
-      whole = words-length bufferCodes p (offsetOf 947);
+      whole = numbers-length 2 bufferCodes p (offsetOf 947);
     }
 
 -- either of two that both have a property

@@ -11,7 +11,7 @@ use borrow.Author.Tests.{eq-eqb, le-leb, leb-true}
 use Rattle.codes.specs.Code.{readable, readsAll, word}
 use Rattle.codes.specs.Number.{numberAt, put, signedOf}
 use Rattle.codes.proofs.Put.{put-length, put-fits, put-append, put-over}
-use Rattle.codes.proofs.Number.{number-put, number-before}
+use Rattle.codes.proofs.Number.{number-put, number-before, numbers-same}
 use Rattle.blocks.specs.Block.{blockLimit}
 use Rattle.blocks.specs.Response.{response}
 use Rattle.blocks.specs.Place.{headerOf}
@@ -24,7 +24,6 @@ use Rattle.part.specs.Layout.{stateAt, effectiveAt, lengthAt, responseAt
 use Rattle.part.specs.Record.{stateOf, faultsOf, driveOf}
 use Rattle.part.specs.WellFormed.{everyRow, limitsFit, fixedFit, waitingFits, unusedFit}
 use Rattle.part.proofs.Waiting.{byte-written, filled-length}
-use Rattle.part.proofs.Words.{words-same}
 use Rattle.part.proofs.Kept.{row-passes, row-safe, tested-safe, element-same, limits-same, fixed-same}
 
 -- w bytes from k on stand before the response and its length
@@ -60,7 +59,7 @@ module _ (bs p : List ℕ) where
   unfolding offsetOf findOf rows parameterBytes
   response-faults = λ j. record {
     counter = response-apart 2 (offsetOf 944) refl j;
-    buffer = words-same bufferCodes p (withResponse bs p) (offsetOf 947) (λ i h. response-apart 2 (offsetOf 947 + i * 2) (le-leb (offsetOf 947 + i * 2 + 2) lengthAt (omega arith))) j;
+    buffer = numbers-same 2 bufferCodes (withResponse bs p) p (offsetOf 947) (λ i h. response-apart 2 (offsetOf 947 + i * 2) (le-leb (offsetOf 947 + i * 2 + 2) lengthAt (omega arith))) j;
   }
 
   -- the drive record is as it was

@@ -12,6 +12,7 @@ use Rattle.catalogue.specs.Table.{rows, findOf, offsetOf, parameterBytes}
 use Rattle.catalogue.specs.Element.{inside, elementOf, putElement}
 use Rattle.part.proofs.FreshLaws.{rows-length}
 use Rattle.codes.proofs.Put.{put-length}
+use Rattle.codes.proofs.Number.{numbers-length}
 use Rattle.blocks.specs.Block.{blockLimit}
 use Rattle.blocks.specs.Response.{response}
 use Rattle.blocks.specs.Place.{headerOf}
@@ -26,7 +27,6 @@ use Rattle.part.specs.Layout.{stateAt, lengthAt, partSize, waitingLength
 use Rattle.part.specs.Record.{numberOf, stateOf, putDrive, driveOf}
 use Rattle.part.specs.Fresh.{freshPart}
 use Rattle.part.specs.WellFormed.{isState, limitsFit, fixedFit, waitingFits, unusedFit, wellFormed}
-use Rattle.part.proofs.Words.{words-length}
 use Rattle.part.proofs.Rule.{form-of, form-is}
 pub use Rattle.part.proofs.Cycled.{InputFits, loaded-fits, cycled-fits}
 pub use Rattle.part.proofs.Stored.{Fits, ofRecord, drive-length, drive-response, drive-element, stored-is-loaded}
@@ -88,7 +88,7 @@ pub cycle-keeps-waiting : (p : List ℕ) (i : Input) → waiting (putDrive (cycl
 unfolding driveOf
 cycle-keeps-waiting p i =
     let d = cycleOf (driveOf p) i .drive in
-    let kept = drive-response d p (keeps-length (driveOf p) i (words-length bufferCodes p (offsetOf 947))) in
+    let kept = drive-response d p (keeps-length (driveOf p) i (numbers-length 2 bufferCodes p (offsetOf 947))) in
     rw (same-length p (putDrive d p) kept, same-bytes p (putDrive d p) kept)
 
 module _ (axis : ℕ) (p : List ℕ) (e : wellFormed axis p ≡ true) where

@@ -13,14 +13,10 @@ use Rattle.codes.specs.Code.{AllOf, word, writeAll}
 use Rattle.codes.specs.Number.{numberAt, put}
 use Rattle.codes.proofs.Sound.{word-sound, valid-word}
 use Rattle.codes.proofs.Put.{word-length, put-fits}
-use Rattle.codes.proofs.Number.{number-is}
+use Rattle.codes.proofs.Number.{number-is, numbers-length}
 use Rattle.codes.proofs.Items.{all-length}
 use Rattle.drive.specs.Faults.{bufferCodes, zeros}
 use Rattle.part.specs.Record.{wordsAt}
-
-pub words-length : (n : ℕ) (p : List ℕ) (at : ℕ) → length (wordsAt n p at) ≡ n
-words-length zero p at = refl
-words-length (suc n) p at = ap suc (words-length n p (at + 2))
 
 -- one word more, at the end
 words-last : (n : ℕ) (p : List ℕ) (at : ℕ) → wordsAt n p at ++ (numberAt 2 p (at + n * 2) ∷ []) ≡ wordsAt (suc n) p at
@@ -39,7 +35,7 @@ module _ (n : ℕ) (p : List ℕ) (at : ℕ) where
       let zeros = replicate {A = ℕ} (n - (i + 1)) 0 in
       let k : n - i ≡ suc (n - (i + 1)) = omega arith in
       ap (λ (j : ℕ). set (wordsAt i p at ++ replicate j 0) i x) k
-      ∙ (set-at (wordsAt i p at) 0 zeros x i (words-length i p at)
+      ∙ (set-at (wordsAt i p at) 0 zeros x i (numbers-length 2 i p at)
       ∙ (sym (append-snoc (wordsAt i p at) x zeros)
       ∙ (ap (λ (y : ℕ). (wordsAt i p at ++ (y ∷ [])) ++ zeros) e
       ∙ (ap (λ (l : List ℕ). l ++ zeros) (words-last i p at) ∙ ap (λ (j : ℕ). wordsAt j p at ++ zeros) (sym (add-one i))))))
@@ -85,16 +81,6 @@ words-put b l at v room =
     let n = all-length (word 2 .write) 2 (word-length 2) b in
     words-read b (put l at bs) at (drop (at + length bs) l) v
     (ap (drop at) (put-fits l at bs (omega arith)) ∙ drop-at (take at l) (bs ++ drop (at + length bs) l) at (length-take-le at l (omega arith)))
-
--- words that all stand elsewhere are as they were
-pub words-same : (n : ℕ) (p q : List ℕ) (at : ℕ) → ((i : ℕ) → i < n → numberAt 2 q (at + i * 2) ≡ numberAt 2 p (at + i * 2)) → wordsAt n q at ≡ wordsAt n p at
-words-same zero p q at h = refl
-words-same (suc n) p q at h =
-    let e : at + 0 * 2 ≡ at = omega arith in
-    let first : numberAt 2 q at ≡ numberAt 2 p at = rw e at (h 0 (omega arith)) in
-    let step : (i : ℕ) → at + suc i * 2 ≡ at + 2 + i * 2 = λ i. omega arith in
-    ap (λ (y : ℕ). y ∷ wordsAt n q (at + 2)) first
-    ∙ ap (λ (l : List ℕ). numberAt 2 p at ∷ l) (words-same n p q (at + 2) (λ i k. rw (← step i) (h (suc i) (omega arith))))
 
 zeros-are : (s : List ℕ) → zeros s ≡ true → s ≡ replicate (length s) 0
 zeros-are [] h = refl

@@ -1,10 +1,10 @@
 -- The drive record of an axis in its part: document 01's state, PNU 944, 947 and 10100 to 10103, and the effective setpoint.
 use mathlib.Core.Bool.{cond}
 use mathlib.Core.List.{List, [], _∷_}
-use Prim.Native.Nat.{ℕ, zero, suc, _+_}
+use Prim.Native.Nat.{ℕ}
 use lib.Dec.{eqb}
 use Rattle.codes.specs.Code.{word, writeAll}
-use Rattle.codes.specs.Number.{numberAt, put, signedOf, bitsOf}
+use Rattle.codes.specs.Number.{numberAt, numbersAt, put, signedOf, bitsOf}
 use Rattle.drive.specs.declared.states.State.{State}
 use Rattle.drive.specs.declared.states.State.the-variants.{S1, S2, S3, S4, S51, S52}
 use Rattle.drive.specs.declared.Drive.{Drive}
@@ -36,8 +36,7 @@ stateOf n = stateIn states n
 
 -- n words from a place on
 abbrev pub wordsAt : ℕ → List ℕ → ℕ → List ℕ
-wordsAt zero p at = []
-wordsAt (suc n) p at = numberAt 2 p at ∷ wordsAt n p (at + 2)
+wordsAt n p at = numbersAt 2 n p at
 
 abbrev pub speedAt : List ℕ → ℕ → N2
 speedAt p at = record { 0 = signedOf 2 (numberAt 2 p at) }

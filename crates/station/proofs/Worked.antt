@@ -29,7 +29,7 @@ use Rattle.station.specs.Cycle.{cycleRefusal, cycleAnswer, cyclePart}
 use Rattle.station.specs.Runs.{runAnswers, runEnd}
 use Rattle.station.specs.Isolation.{answer, after, machine}
 use Rattle.station.specs.Calls.{Call, kinds}
-use Rattle.station.specs.Worked.{workedCalls, mergedCalls, wholeCalls, endedPart, WorkedByHand, MergedByHand, WholeByHand}
+use Rattle.station.specs.Worked.{WorkedCall, workedCalls, mergedCalls, wholeCalls, endedPart, wholePart, WorkedByHand, ByHand, MergedByHand, WholeByHand}
 use Rattle.station.proofs.Isolation.{ends}
 use Rattle.station.proofs.Windows.{length-with, window-same, window-after}
 use Rattle.station.proofs.CycleOwes.{drive-length}
@@ -85,10 +85,6 @@ merged-end : partOf 1 (runEnd (machine kinds) merged (freshParts farms)) ≡ fre
 unfolding readable numberAt put formatSize valueSize changeBlockFits responseBlockFits valuesOf valuesSize block address requestBlocks request responseBlocks hasError errorsFit response wordOf wordUsed setpointUsed acknowledges afterAck afterCode stateAfter effectiveOf nearOf fastOf statusOf entersS4 cycleOf rows parameterBytes findOf offsetOf inside elementOf putElement withResponse stateOf driveOf putDrive freshPart limitsFit fixedFit waitingFits unusedFit wellFormed checked readBlock changeOne worked outcomeOf window withWindow stationRefusal frameRefusal frameAnswer frameReply framePart cycleRefusal cycleAnswer cyclePart exchangeDone runEnd answer after
 merged-end = refl
 
-pub merged-by-hand : MergedByHand
-merged-by-hand s h =
-    (ap (runAnswers (machine kinds) merged) (made s h) ∙ merged-computed, ap (λ (l : List ℕ). partOf 1 (runEnd (machine kinds) merged l)) (made s h) ∙ merged-end)
-
 abbrev wholes : List Call
 wholes = map (λ w. w .call) wholeCalls
 
@@ -96,10 +92,22 @@ wholes-computed : runAnswers (machine kinds) wholes (freshParts farms) ≡ map (
 unfolding readable numberAt put formatSize valueSize changeBlockFits responseBlockFits valuesOf valuesSize block address requestBlocks request responseBlocks hasError errorsFit response wordOf wordUsed setpointUsed acknowledges afterAck afterCode stateAfter effectiveOf nearOf fastOf statusOf entersS4 cycleOf rows parameterBytes findOf offsetOf inside elementOf putElement withResponse stateOf driveOf putDrive freshPart limitsFit fixedFit waitingFits unusedFit wellFormed checked readBlock changeOne worked outcomeOf window withWindow stationRefusal frameRefusal frameAnswer frameReply framePart cycleRefusal cycleAnswer cyclePart exchangeDone runAnswers answer after
 wholes-computed = refl
 
-wholes-end : partOf 1 (runEnd (machine kinds) wholes (freshParts farms)) ≡ put (put freshPart (offsetOf 9900) (0x00 ∷ 0x07 ∷ [])) (offsetOf 30001) (0x00 ∷ 0x01 ∷ 0x00 ∷ 0x02 ∷ 0x0B ∷ 0xB8 ∷ 0x01 ∷ 0xF4 ∷ [])
+wholes-end : partOf 1 (runEnd (machine kinds) wholes (freshParts farms)) ≡ wholePart
 unfolding readable numberAt put formatSize valueSize changeBlockFits responseBlockFits valuesOf valuesSize block address requestBlocks request responseBlocks hasError errorsFit response wordOf wordUsed setpointUsed acknowledges afterAck afterCode stateAfter effectiveOf nearOf fastOf statusOf entersS4 cycleOf rows parameterBytes findOf offsetOf inside elementOf putElement withResponse stateOf driveOf putDrive freshPart limitsFit fixedFit waitingFits unusedFit wellFormed checked readBlock changeOne worked outcomeOf window withWindow stationRefusal frameRefusal frameAnswer frameReply framePart cycleRefusal cycleAnswer cyclePart exchangeDone runEnd answer after
 wholes-end = refl
 
+-- computed on fresh parts, and so on every fresh station
+by-hand :
+    (them : List WorkedCall) (first : List ℕ)
+    → runAnswers (machine kinds) (map (λ w. w .call) them) (freshParts farms) ≡ map (λ w. w .answer) them
+    → partOf 1 (runEnd (machine kinds) (map (λ w. w .call) them) (freshParts farms)) ≡ first
+    → ByHand them first
+by-hand them first answers end s h =
+    let calls = map (λ w. w .call) them in
+    (ap (runAnswers (machine kinds) calls) (made s h) ∙ answers, ap (λ (l : List ℕ). partOf 1 (runEnd (machine kinds) calls l)) (made s h) ∙ end)
+
+pub merged-by-hand : MergedByHand
+merged-by-hand = by-hand mergedCalls freshPart merged-computed merged-end
+
 pub whole-by-hand : WholeByHand
-whole-by-hand s h =
-    (ap (runAnswers (machine kinds) wholes) (made s h) ∙ wholes-computed, ap (λ (l : List ℕ). partOf 1 (runEnd (machine kinds) wholes l)) (made s h) ∙ wholes-end)
+whole-by-hand = by-hand wholeCalls wholePart wholes-computed wholes-end

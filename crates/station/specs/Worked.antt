@@ -121,17 +121,21 @@ WorkedByHand =
     → let calls = map (λ w. w .call) workedCalls in
     Ends (runAnswers (machine kinds) calls (freshStation s)) (runEnd (machine kinds) calls (freshStation s))
 
--- of the merged calls: what they answer, and that farm 1's part is then fresh
-abbrev pub MergedByHand : Type 0
-MergedByHand =
+-- calls on a fresh station, whatever stood in the memory before: what they answer, and farm 1's part when they are over
+abbrev pub ByHand : List WorkedCall → List ℕ → Type 0
+ByHand them first =
     (s : List ℕ) → length s ≡ stationSize
-    → let calls = map (λ w. w .call) mergedCalls in
-    (runAnswers (machine kinds) calls (freshStation s) ≡ map (λ w. w .answer) mergedCalls)
-    × (partOf 1 (runEnd (machine kinds) calls (freshStation s)) ≡ freshPart)
+    → let calls = map (λ w. w .call) them in
+    (runAnswers (machine kinds) calls (freshStation s) ≡ map (λ w. w .answer) them)
+    × (partOf 1 (runEnd (machine kinds) calls (freshStation s)) ≡ first)
+
+-- the merged calls leave it fresh
+abbrev pub MergedByHand : Type 0
+MergedByHand = ByHand mergedCalls freshPart
 
 -- R-6, all four marks inside their limits: 1000, 2000, 3000 and 500
-abbrev pub allFrame : List ℕ
-allFrame =
+abbrev pub allMarksFrame : List ℕ
+allMarksFrame =
     0x5F ∷ 0x00 ∷ 0x2F ∷ 0x14 ∷ 0x09 ∷ 0x02 ∷ 0x01 ∷ 0x01 ∷ 0x10 ∷ 0x04 ∷ 0x75 ∷ 0x31 ∷ 0x00 ∷ 0x00
     ∷ 0x42 ∷ 0x04 ∷ 0x03 ∷ 0xE8 ∷ 0x07 ∷ 0xD0 ∷ 0x0B ∷ 0xB8 ∷ 0x01 ∷ 0xF4 ∷ []
 
@@ -144,16 +148,15 @@ threeFrame =
 
 abbrev pub wholeCalls : List WorkedCall
 wholeCalls =
-    exchangeExample 1 allFrame 4 (0x5E ∷ 0x00 ∷ 0x2F ∷ 0x04 ∷ 0x09 ∷ 0x02 ∷ 0x01 ∷ 0x01 ∷ []) 0
+    exchangeExample 1 allMarksFrame 4 (0x5E ∷ 0x00 ∷ 0x2F ∷ 0x04 ∷ 0x09 ∷ 0x02 ∷ 0x01 ∷ 0x01 ∷ []) 0
     ∷ exchangeExample 1 threeFrame 3
     (0x5E ∷ 0x00 ∷ 0x2F ∷ 0x0C ∷ 0x0A ∷ 0x82 ∷ 0x01 ∷ 0x03 ∷ 0x40 ∷ 0x00 ∷ 0x44 ∷ 0x01 ∷ 0x00 ∷ 0x02 ∷ 0x40 ∷ 0x00 ∷ []) 0
     ∷ []
 
--- of these: what they answer, and that farm 1's part is then fresh but for 9900, of 7, and the marks, of 1, 2, 3000 and 500
+-- they leave it fresh but for 9900, of 7, and the marks, of 1, 2, 3000 and 500
+abbrev pub wholePart : List ℕ
+wholePart =
+    put (put freshPart (offsetOf 9900) (0x00 ∷ 0x07 ∷ [])) (offsetOf 30001) (0x00 ∷ 0x01 ∷ 0x00 ∷ 0x02 ∷ 0x0B ∷ 0xB8 ∷ 0x01 ∷ 0xF4 ∷ [])
+
 abbrev pub WholeByHand : Type 0
-WholeByHand =
-    (s : List ℕ) → length s ≡ stationSize
-    → let calls = map (λ w. w .call) wholeCalls in
-    (runAnswers (machine kinds) calls (freshStation s) ≡ map (λ w. w .answer) wholeCalls)
-    × (partOf 1 (runEnd (machine kinds) calls (freshStation s))
-    ≡ put (put freshPart (offsetOf 9900) (0x00 ∷ 0x07 ∷ [])) (offsetOf 30001) (0x00 ∷ 0x01 ∷ 0x00 ∷ 0x02 ∷ 0x0B ∷ 0xB8 ∷ 0x01 ∷ 0xF4 ∷ []))
+WholeByHand = ByHand wholeCalls wholePart

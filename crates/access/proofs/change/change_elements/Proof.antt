@@ -9,7 +9,7 @@ use Rattle.blocks.specs.Block.{changeBlockFits}
 use Rattle.blocks.proofs.Blocks.{block-stands}
 use Rattle.access.specs.Change.{storeWhole}
 use Rattle.access.specs.Walk.{blockIn, Did}
-use Rattle.access.proofs.Answers.{format-same}
+use Rattle.access.proofs.Answers.{of-kind, format-same}
 use Rattle.access.proofs.Storing.{values-room, values-stand}
 use Rattle.access.proofs.Failing.{did-fail, head-format, head-count, is-locked, is-alien, is-miscounted, is-stored}
 use borrow.Author.Needs.{needs}
@@ -79,7 +79,7 @@ store-whole-requires c κs =
     let f = c .before .before .before .before .before .is-format in (
       search needs,
       values-room s (a .at) (a .h) (block-stands changeBlockFits s (a .at) (a .h) (c .before .before .before .before .before .before .before .before .before .before .pre .1)) (c .before .element-size .result) (a .n)
-          (format-same (a .r .kind) (a .h .format) (sym (f .ensures) ∙ not-false (f .result) (c .before .before .before .before .if2 .left)) ∙ sym (c .before .element-size .ensures))
+          (format-same (a .r .kind) (a .h .format) (of-kind (a .r .kind) (a .h .format) (sym (f .ensures) ∙ not-false (f .result) (c .before .before .before .before .if2 .left))) ∙ sym (c .before .element-size .ensures))
           (c .before .before .if3 .left),
     )
 
@@ -100,7 +100,7 @@ returns-4 c =
     known
     (c .before .before .before .before .before .if3 .left)
     (subst (λ (xs : List ℕ). Did (storeWhole (a .r) (a .a .subindex) xs (now (a .part))) (d .last .0) (d .result))
-    (values-stand s (a .at) (a .h) (block-stands changeBlockFits s (a .at) (a .h) st) (size .result) (a .n) (format-same (a .r .kind) (a .h .format) known ∙ sym (size .ensures)) (c .before .before .before .before .before .if3 .left))
+    (values-stand s (a .at) (a .h) (block-stands changeBlockFits s (a .at) (a .h) st) (size .result) (a .n) (format-same (a .r .kind) (a .h .format) (of-kind (a .r .kind) (a .h .format) known) ∙ sym (size .ensures)) (c .before .before .before .before .before .if3 .left))
     (d .ensures))
 
 pub change-elements-spec : {M : Type 1} → statement M
