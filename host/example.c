@@ -1,6 +1,7 @@
 /* A host of the station, to start from: it lends the memory, runs four control cycles on axis 1, lets farm 1 write two
- * level marks, and lets farm 2 try farm 1's frame. Every answer carries a number, 0 for done; a host looks at it before
- * anything else. Prints document 01's listing ("Journal program"), with a write and its fetch as one line. */
+ * level marks, lets farm 2 try farm 1's frame, and lets farm 1 mend its marks. Every answer carries a number, 0 for done;
+ * a host looks at it before anything else. Prints document 01's listing ("Journal program"), with a write and its fetch as
+ * one line, and then a line for the mended marks. */
 #include "llinkhiro.h"
 
 #include <inttypes.h>
@@ -23,6 +24,12 @@ static const uint8_t write_marks[] = {
     0x07, 0x02, 0x01, 0x01,             /* reference 7, change, axis 1, one parameter */
     0x10, 0x02, 0x75, 0x31, 0x00, 0x00, /* value, 2 elements, PNU 30001, from sub-index 0 */
     0x42, 0x02, 0x03, 0xE8, 0x0B, 0xB9, /* words, 2 values: 1000 and 3001 */
+};
+
+/* The same with reference 8 and the second mark 3000: both are stored. */
+static const uint8_t mended_marks[] = {
+    0x5F, 0x00, 0x2F, 0x10, 0x08, 0x02, 0x01, 0x01, 0x10, 0x02,
+    0x75, 0x31, 0x00, 0x00, 0x42, 0x02, 0x03, 0xE8, 0x0B, 0xB8,
 };
 
 static void stop_unless(uint8_t wanted, uint8_t number, const char *call)
@@ -73,6 +80,7 @@ int main(void)
 
     exchange(1, write_marks, sizeof write_marks, DONE); /* no mark is stored: 82, value out of limits */
     exchange(2, write_marks, sizeof write_marks, AXIS_NOT_THE_CALLERS);
+    exchange(1, mended_marks, sizeof mended_marks, DONE); /* both are stored: 02 */
 
     free(station);
     return EXIT_SUCCESS;

@@ -617,7 +617,8 @@ static void flags(void)
               (struct turn){ .axis = 3, .flags = high[i], .stw1 = 0x047F, .number = 12 });
 }
 
-/* Sets of refusal numbers that a call deserves, or of checks that a pair fails: bit k stands for number k. */
+/* Sets of refusal numbers that a call deserves, of checks that a pair fails, or of marks or addresses that are bad: bit k
+ * stands for number k. */
 static bool has(unsigned set, unsigned number)
 {
     return set >> number & 1;

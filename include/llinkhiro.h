@@ -93,7 +93,8 @@ struct llinkhiro_cycled llinkhiro_cycle(uint8_t *station, size_t station_len, ui
 /*
  * What llinkhiro_frame and llinkhiro_exchange answer beside the reply.
  *   length  bytes of the reply: the first `length` bytes of the reply memory were written, and no others
- *   stored  elements that a change stored; 0 for every other frame
+ *   stored  elements that a change stored: all of each address that it answers without an error, none of the others; 0 for
+ *           every other frame
  *   number  0, or the refusal
  */
 struct llinkhiro_framed {

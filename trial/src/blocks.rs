@@ -295,7 +295,7 @@ fn value_block(random: &mut Random, pnu: u16, elements: u8, right: bool) -> Valu
 }
 
 /// The limits of a parameter; all words where it has none.
-fn limits(pnu: u16) -> (i32, i32) {
+pub fn limits(pnu: u16) -> (i32, i32) {
     Parameter::find(pnu).and_then(Parameter::limits).unwrap_or((0, 65535))
 }
 

@@ -1,8 +1,8 @@
 //! Counts of a run, by number and by name, and what of them no call has reached.
 
+use crate::blocks::limits;
 use crate::layout::{Block, Values};
 use std::collections::BTreeMap;
-use twin::Parameter;
 
 /// Identifiers of responses.
 const RESPONSES: [u8; 4] = [0x01, 0x02, 0x81, 0x82];
@@ -142,7 +142,7 @@ impl Worked {
 
 /// Where values stand that are outside the limits of this parameter. None that can be written is I16, so words have no sign.
 fn outside(pnu: u16, values: &[u32]) -> Vec<usize> {
-    let (low, high) = Parameter::find(pnu).and_then(Parameter::limits).unwrap_or((i32::MIN, i32::MAX));
+    let (low, high) = limits(pnu);
     (0..values.len()).filter(|at| !(low..=high).contains(&(values[*at] as i32))).collect()
 }
 
