@@ -48,10 +48,10 @@ number = record { format = 0x42; values = 65535 ∷ [] }
 tooHigh : Block
 tooHigh = record { format = 0x42; values = 1000 ∷ 3001 ∷ [] }
 
--- all three are stored; the last is not; the marks are not, and 9900 is
 abbrev change : List Address → List Block → Request
 change them sent = record { reference = 255; identifier = 2; axis = 1; addresses = them; blocks = sent }
 
+-- all three are stored; the last is not; the marks are not, and 9900 is
 setThree : Request
 setThree = change (marks ∷ user ∷ marks ∷ []) (levels ∷ number ∷ levels ∷ [])
 

@@ -99,7 +99,7 @@ module _ (r : Row) (w n : ℕ) (s : List ℕ) (at₀ i : ℕ) (p₀ p : List ℕ
   pub store-end : left ≡ 0 → p ≡ storeFrom r i (numbersAt w n s at₀) p₀
   store-end e = rw e at (c .todo)
 
--- all were tested, and so all are stored
+-- all are inside and are stored, or one is not and none is
 pub whole-stored : (r : Row) (i w n : ℕ) (s : List ℕ) (at : ℕ) (p m : List ℕ) → n ≤ bufferCodes → true ≡ allInside r (numbersAt w n s at) → m ≡ storeFrom r i (numbersAt w n s at) p
     → Did (storeWhole r i (numbersAt w n s at) p) m (record { failed = false; error = 0; stored = n })
 whole-stored r i w n s at p m few t e = rw (← t) (record { block = refl; part = e; stored = sym (numbers-length w n s at); few = few })

@@ -129,11 +129,11 @@ is-kind k f (inr e) = rw (eq-eqb f (typeCode k) e, or-true)
 
 pub answered-exactly : AnsweredExactly
 unfolding changeOne
-answered-exactly a b p = (
-  change-cases a b p (λ c. isError (c .block) ≡ false → Storable a b) (λ x small e. absurd (true≢false e)) (λ s named e. s),
-  answers,
-)
+answered-exactly a b p = (storable, answers)
   where
+    storable : isError (changeOne a b p .block) ≡ false → Storable a b
+    storable = change-cases a b p (λ c. isError (c .block) ≡ false → Storable a b) (λ x small e. absurd (true≢false e)) (λ s named e. s)
+
     answers : Storable a b → isError (changeOne a b p .block) ≡ false
     answers s =
         let k = s .row .kind in

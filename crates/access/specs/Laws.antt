@@ -175,7 +175,7 @@ pub record Storable (a : Address) (b : Block) : Type 0 where
   pub count : length (b .values) ≡ number
   pub limits : AllOf (λ x. inside row x ≡ true) (b .values)
 
--- such an address answers no error, whatever the others do, and no other does
+-- such an address answers no error, whatever the part holds, and one that cannot be stored answers one
 abbrev pub AnsweredExactly : Type 0
 AnsweredExactly = (a : Address) (b : Block) (p : List ℕ) → (isError (changeOne a b p .block) ≡ false) ↔ Storable a b
 

@@ -1,5 +1,5 @@
-// Requests worked on one axis's part: the worked examples of document 01, both sides of its limits, of 02's R-2 and of R-6, and each error
-// in front of the next.
+// Requests worked on one axis's part: the worked examples of document 01, both sides of its limits, what 02's R-2 and R-6 ask, and each
+// error in front of the next.
 ghost use Prim.Native.Nat.{_≤_};
 use blocks::BlockAt;
 use blocks::Header;

@@ -1,4 +1,4 @@
--- P1 to P8, frames of these as merged calls, and changes that store answer and end as the documents say: one statement over each list.
+-- P1 to P8, frames of these as merged calls, and changes that store: all answer and end as the documents say, one statement over each list.
 use mathlib.Core.Path.{_≡_, refl, ap, _∙_}
 use mathlib.Core.List.{List, [], _∷_, map}
 use Prim.Native.Nat.{ℕ, _+_, _-_, _*_, _≤_}

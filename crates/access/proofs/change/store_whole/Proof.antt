@@ -1,4 +1,4 @@
--- All values are tested, and then all are stored.
+-- All values are tested; then all are stored, or none.
 use mathlib.Core.Path.{sym, _∙_}
 use native.Mathlib.Omega.{arith}
 use denote.Ref.{now}
