@@ -1,7 +1,8 @@
 /* A host of the station, to start from: it lends the memory, runs four control cycles on axis 1, lets farm 1 write two
  * level marks, lets farm 2 try farm 1's frame, and lets farm 1 mend its marks. Every answer carries a number, 0 for done;
- * a host looks at it before anything else. Prints document 01's listing ("Journal program"), with a write and its fetch as
- * one line, and then a line for the mended marks. */
+ * a host looks at it before anything else. Done is not yet stored: an 82 in the response says which addresses failed.
+ * Prints document 01's listing ("Journal program") as R-6 of document 02 has it, with a write and its fetch as one line,
+ * and then a line for the mended marks. */
 #include "llinkhiro.h"
 
 #include <inttypes.h>

@@ -539,7 +539,7 @@ static void sizes(void)
     free(first);
 }
 
-/* 01's listing: four cycles, two frames, the denied frame. */
+/* 01's listing as R-6 has it: four cycles, two frames, the denied frame. */
 static void worked(void)
 {
     fresh_station();
@@ -1340,7 +1340,7 @@ static void elements_set(void)
              "43 02 00 00 11 11 FF FF EE EE", 0, 6, "5E 00 2F 04  07 02 01 02");
 }
 
-/* So many marks, from one on, are to become 3000, but for a set of bad ones, number 1 the first, which are 3001. */
+/* So many marks, from a given one on, are to become 3000, but for a set of bad ones, number 1 the first, which are 3001. */
 static void marks_written(uint8_t first, uint8_t count, unsigned bad)
 {
     struct bytes change = hex("5F 00 2F 00  07 02 01 01  10 00 75 31 00 00  42 00");

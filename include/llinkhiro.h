@@ -93,8 +93,9 @@ struct llinkhiro_cycled llinkhiro_cycle(uint8_t *station, size_t station_len, ui
 /*
  * What llinkhiro_frame and llinkhiro_exchange answer beside the reply.
  *   length  bytes of the reply: the first `length` bytes of the reply memory were written, and no others
- *   stored  elements that a change stored: all of each address that it answers without an error, none of the others; 0 for
- *           every other frame
+ *   stored  elements that a change stored; 0 for every other frame. An address of a change is stored whole or not at all:
+ *           a response 02 stored all; in an 82, 40 00 stands for an address that was stored, an error for one of which
+ *           nothing was. So a number 0 alone does not say that something was stored
  *   number  0, or the refusal
  */
 struct llinkhiro_framed {

@@ -1,4 +1,4 @@
-//! An address is stored whole or not at all: R-6 of document 02, reading 17.
+//! An address is stored whole or not at all: R-6 of document 02.
 
 use super::{change, hex, write_and_fetch};
 use crate::Station;
