@@ -128,6 +128,11 @@ read-fits =
       blocks = tt;
     }
 
+-- the marks at their limits can be stored
+storable : Storable marks levels
+unfolding marks levels checked findOf rows inside
+storable = record { row = _; number = 2; passed = refl; writable = refl; format = inl refl; count = refl; limits = (refl, (refl, tt)) }
+
 -- whether 3001 is inside the limits of what an address names
 isIn : Checked → Bool
 isIn (Elements r n) = inside r 3001
@@ -200,8 +205,8 @@ module _ (p : List ℕ) where
   none-of-it = whole-or-none marks tooHigh p .1
 
   -- AnsweredExactly, both ways: one value alone is outside
-  storable : Storable marks levels → isError (changeOne marks levels p .block) ≡ false
-  storable = answered-exactly marks levels p .1
+  stored-marks : isError (changeOne marks levels p .block) ≡ false
+  stored-marks = answered-exactly marks levels p .1 storable
 
   unstorable : isError (changeOne marks tooHigh p .block) ≡ false → ⊥
   unfolding marks tooHigh checked findOf rows inside isIn
