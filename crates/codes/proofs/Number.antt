@@ -1,16 +1,17 @@
--- Numbers at a place: how large they are, where there are none, that what is put is got back and no other changes, and numbers in turn.
+-- Numbers at a place: how large they are, where there are none, that what is put is got back and no other changes, numbers in turn, and that
+-- what is read is written back as it was.
 use mathlib.Core.Path.{_≡_, refl, sym, _∙_, ap}
 use mathlib.Core.Bool.{Bool, true, false, cond}
 use mathlib.Core.List.{List, [], _++_, append-nil, append-assoc}
 use Prim.Native.Nat.{ℕ, zero, suc, _+_, _*_, _≤_, _<_, _^_}
 use native.Mathlib.Omega.{arith}
-use native.Mathlib.Nat.{one-le-pow, zero-add}
+use native.Mathlib.Nat.{one-le-pow, zero-add, suc-mul}
 use native.Mathlib.Decide.{decLe}
 use lib.ListN.{length, getD, take, drop, length-drop, drop-of-length-le, take-append-drop}
-use lib.Seq.{length-take-le, take-at, drop-at, drop-append-le, drop-drop}
+use lib.Seq.{length-take-le, take-add, take-at, drop-at, drop-append-le, drop-drop}
 use lib.Dec.{leb}
 use borrow.Author.Tests.{le-leb, lt-leb}
-use Rattle.codes.specs.Code.{Got, got, bad, Code, word}
+use Rattle.codes.specs.Code.{Got, got, bad, Code, word, writeAll}
 use Rattle.codes.specs.Number.{valueOr, numberAt, numbersAt, put}
 use Rattle.codes.proofs.Sound.{Sound, not-got, word-sound, word-valid, valid-word}
 use Rattle.codes.proofs.Fixed.{Bytes, byte-at, fixed-word}
@@ -127,3 +128,19 @@ numbers-same w zero s t at h = refl
 numbers-same w (suc n) s t at h =
     let first : numberAt w s at ≡ numberAt w t at = let z : at + 0 * w ≡ at = omega arith in rw z at (h 0 (omega arith)) in
     rw (first, numbers-same w n s t (at + w) (λ i k. let z : at + w + i * w ≡ at + suc i * w = omega arith in rw z (h (suc i) (omega arith))))
+
+-- a number that is read is written as the bytes that it was read from, and so are numbers in turn
+module _ (w : ℕ) (s : List ℕ) (b : Bytes s) (narrow : w ≤ 4) where
+  pub number-back : (at : ℕ) → at + w ≤ length s → word w .write (numberAt w s at) ≡ take w (drop at s)
+  number-back at h =
+      let t = drop (at + w) s in
+      let p = fixed-word w .enough s b at h in
+      let x = p .0 in
+      let split : drop at s ≡ word w .write x ++ t = word-sound w .only (drop at s) x t (p .1) .1 in
+      ap (word w .write) (number-is w s at x t narrow (p .1)) ∙ sym (ap (take w) split ∙ take-at (word w .write x) t w (word-length w x))
+
+  pub numbers-back : (n at : ℕ) → at + n * w ≤ length s → writeAll (word w .write) (numbersAt w n s at) ≡ take (n * w) (drop at s)
+  numbers-back zero at h = let z : 0 * w ≡ 0 = omega arith in rw z
+  numbers-back (suc n) at h =
+      let e : suc n * w ≡ w + n * w = suc-mul n w ∙ omega arith in
+      rw (e, take-add w (n * w) (drop at s), drop-drop w at s, number-back at (omega (arith, e)), numbers-back n (at + w) (omega (arith, e)))
