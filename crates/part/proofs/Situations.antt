@@ -1,18 +1,20 @@
 -- How the tests of a situation and of the bytes that must be 0 go on from one place to the next.
-use mathlib.Core.Path.{_≡_, sym, _∙_, ap}
-use mathlib.Core.Bool.{Bool, true, false, _&&_, and-false}
-use mathlib.Core.List.{List}
+use mathlib.Core.Path.{_≡_, _∙_, ap}
+use mathlib.Core.Bool.{Bool, true, false, _&&_}
+use mathlib.Core.List.{List, _∷_}
 use Prim.Native.Nat.{ℕ, suc, _+_, _*_, _-_, _≤_, _<_}
 use native.Mathlib.Omega.{arith}
 use native.Mathlib.Numerals.{add-one}
 use lib.Dec.{eqb}
-use lib.ListN.{length, getD, take, drop, drop-of-length-le}
+use lib.Bits.{bitOr, or-add-and, and-le-r}
+use lib.ListN.{length, getD, take, drop, replicate, drop-of-length-le}
 use lib.Seq.{drop-cons, drop-drop}
-use borrow.Author.Tests.{eq-eqb, ne-eqb, eqb-true}
+use borrow.Author.Tests.{eq-eqb, ne-eqb, eqb-true, eqb-false}
 use borrow.Table.Steps.{cases}
+use Rattle.codes.specs.Number.{numberAt}
 use Rattle.drive.specs.Faults.{situations, situationCodes, bufferCodes, isIn, zeros, proper, allProper}
 use Rattle.part.specs.Record.{wordsAt}
-use Rattle.part.proofs.Words.{words-within}
+use Rattle.part.proofs.Words.{words-within, clear-words}
 
 module _ (s : List ℕ) (i : ℕ) (h : i < length s) where
   pub zeros-here : zeros (drop i s) ≡ (eqb (getD s i 0) 0 && zeros (drop (i + 1) s))
@@ -52,17 +54,13 @@ module _ (s : List ℕ) (i : ℕ) (h : length s ≤ i) where
   pub proper-end : proper (drop i s) ≡ true
   proper-end = rw (drop-of-length-le s {i = i} h)
 
--- the larger of two numbers is 0 where both are
-module _ (a b : ℕ) where
-  pub larger-right : a < b → eqb b 0 ≡ (eqb a 0 && eqb b 0)
-  larger-right h = let n = ne-eqb b 0 (λ e. omega arith) in n ∙ rw n (sym (and-false (eqb a 0)))
-
-  pub larger-left : b ≤ a → eqb a 0 ≡ (eqb a 0 && eqb b 0)
-  larger-left h = cases (eqb a 0) (λ e. rw (e, eq-eqb b 0 (omega (arith, eqb-true a 0 e)))) (λ n. rw n)
+-- two bytes joined are 0 where both are
+pub join-both : (a b : ℕ) → eqb (bitOr a b) 0 ≡ (eqb a 0 && eqb b 0)
+join-both a b = cases (eqb a 0) (λ e. rw (eqb-true a 0 e)) (λ n. rw n (ne-eqb (bitOr a b) 0 (λ z. eqb-false a 0 n (omega (arith, or-add-and a b, and-le-r a b)))))
 
 -- and with the next byte
-pub larger-next : (s : List ℕ) (i m l : ℕ) → i < length s → eqb l 0 ≡ (eqb m 0 && eqb (getD s i 0) 0) → (eqb m 0 && zeros (drop i s)) ≡ (eqb l 0 && zeros (drop (i + 1) s))
-larger-next s i m l h e = rw (zeros-here s i h, e) (regroup (eqb m 0) (eqb (getD s i 0) 0) (zeros (drop (i + 1) s)))
+pub join-next : (s : List ℕ) (i m l : ℕ) → i < length s → eqb l 0 ≡ (eqb m 0 && eqb (getD s i 0) 0) → (eqb m 0 && zeros (drop i s)) ≡ (eqb l 0 && zeros (drop (i + 1) s))
+join-next s i m l h e = rw (zeros-here s i h, e) (regroup (eqb m 0) (eqb (getD s i 0) 0) (zeros (drop (i + 1) s)))
   where
     regroup : (a b c : Bool) → (a && (b && c)) ≡ (a && b && c)
     regroup true b c = cc
@@ -91,3 +89,14 @@ pub situation-is : (p : List ℕ) (at k : ℕ) → k < situations → proper (ta
 situation-is p at k h =
     let e : at + k * situationCodes * 2 ≡ at + k * (situationCodes * 2) = omega arith in
     ap proper (words-within situationCodes (k * situationCodes) bufferCodes p at (omega arith) ∙ ap (wordsAt situationCodes p) e)
+
+-- a situation of at most one code
+pub situation-single : (p : List ℕ) (at k : ℕ) → k < situations → at + bufferCodes * 2 ≤ length p
+    → zeros (take ((situationCodes - 1) * 2) (drop (at + k * (situationCodes * 2) + 2) p)) ≡ true → proper (take situationCodes (drop (k * situationCodes) (wordsAt bufferCodes p at))) ≡ true
+situation-single p at k h room clear =
+    let from = at + k * (situationCodes * 2) in
+    situation-is p at k h
+    ∙ (ap (λ (l : List ℕ). proper (numberAt 2 p from ∷ l)) (clear-words (situationCodes - 1) p (from + 2) (omega arith) clear) ∙ single (numberAt 2 p from))
+  where
+    single : (x : ℕ) → proper (x ∷ replicate (situationCodes - 1) 0) ≡ true
+    single x = cases (eqb x 0) (λ e. rw e) (λ n. rw (n, ne-eqb 0 x (λ e. eqb-false x 0 n (omega arith))))

@@ -2,7 +2,7 @@
 use mathlib.Core.Path.{_≡_, sym, _∙_, ap}
 use mathlib.Core.Bool.{Bool, true, false, _&&_, _||_}
 use mathlib.Core.List.{List}
-use Prim.Native.Nat.{ℕ, _+_, _≤_, _<_}
+use Prim.Native.Nat.{ℕ, _+_, _-_, _≤_, _<_}
 use native.Mathlib.Omega.{arith}
 use lib.Dec.{eqb, leb}
 use lib.ListN.{length, take, drop, length-take, length-drop, drop-of-length-le}
@@ -56,8 +56,10 @@ module _ (p : List ℕ) (n : ℕ) (e : n ≡ waitingLength p) where
   unfolding unusedFit
   unused-none h = rw (← e) (sym (ap zeros (drop-of-length-le (responseRoom p) {i = n} (omega (arith, length-take blockLimit (drop responseAt p))))))
 
-  pub unused-is : length p ≡ partSize → zeros (drop (responseAt + n) p) ≡ unusedFit p
+  pub unused-is : length p ≡ partSize → (start : ℕ) → start ≡ responseAt + n → zeros (take (length p - start) (drop start p)) ≡ unusedFit p
   unfolding unusedFit
-  unused-is long =
-      rw (← e)
-      (ap zeros (sym (drop-drop n responseAt p) ∙ ap (drop n) (sym (take-all blockLimit (drop responseAt p) (omega (arith, length-drop responseAt p))))))
+  unused-is long start f =
+      ap zeros (take-all (length p - start) (drop start p) (omega (arith, length-drop start p)))
+      ∙ (ap (λ (k : ℕ). zeros (drop k p)) f
+      ∙ rw (← e)
+      (ap zeros (sym (drop-drop n responseAt p) ∙ ap (drop n) (sym (take-all blockLimit (drop responseAt p) (omega (arith, length-drop responseAt p)))))))

@@ -6,7 +6,7 @@ use Prim.Native.Nat.{ℕ, zero, suc, _+_, _*_, _-_, _≤_, _<_}
 use native.Mathlib.Omega.{arith}
 use native.Mathlib.Numerals.{add-one}
 use lib.Dec.{eqb, lit≤, lit<}
-use lib.ListN.{length, take, drop, set, replicate, length-drop, take-append-drop}
+use lib.ListN.{length, take, drop, set, replicate, length-drop, length-replicate, take-append-drop}
 use lib.Seq.{set-at, append-snoc, drop-at, drop-drop, length-take-le}
 use borrow.Author.Tests.{eqb-true}
 use Rattle.codes.specs.Code.{AllOf, word, writeAll}
@@ -15,7 +15,7 @@ use Rattle.codes.proofs.Sound.{word-sound, valid-word}
 use Rattle.codes.proofs.Put.{word-length, put-fits}
 use Rattle.codes.proofs.Number.{number-is, numbers-length}
 use Rattle.codes.proofs.Items.{all-length}
-use Rattle.drive.specs.Faults.{bufferCodes, zeros}
+use Rattle.drive.specs.Faults.{zeros}
 use Rattle.part.specs.Record.{wordsAt}
 
 -- one word more, at the end
@@ -88,15 +88,20 @@ zeros-are (y ∷ ys) h =
     let both = and-eq-true-iff (eqb y 0) (zeros ys) .0 h in
     rw (eqb-true y 0 (both .0)) (ap (λ (l : List ℕ). 0 ∷ l) (zeros-are ys (both .1)))
 
--- where every byte of the buffer is 0, so is every code
-pub clear-words : (p : List ℕ) (at : ℕ) → at + bufferCodes * 2 ≤ length p → zeros (take (bufferCodes * 2) (drop at p)) ≡ true → wordsAt bufferCodes p at ≡ replicate bufferCodes 0
-clear-words p at room h =
-    let bs = take (bufferCodes * 2) (drop at p) in
-    let n : length bs ≡ bufferCodes * 2 = length-take-le (bufferCodes * 2) (drop at p) (omega (arith, length-drop at p)) in
-    let clear : bs ≡ replicate (bufferCodes * 2) 0 = zeros-are bs h ∙ ap (λ (k : ℕ). replicate k 0) n in
-    words-read (replicate bufferCodes 0) p at (drop (bufferCodes * 2) (drop at p)) (small bufferCodes)
-    (sym (take-append-drop (bufferCodes * 2) (drop at p)) ∙ ap (λ (l : List ℕ). l ++ drop (bufferCodes * 2) (drop at p)) clear)
+-- where every byte of some words is 0, so is every word
+pub clear-words : (n : ℕ) (p : List ℕ) (at : ℕ) → at + n * 2 ≤ length p → zeros (take (n * 2) (drop at p)) ≡ true → wordsAt n p at ≡ replicate n 0
+clear-words n p at room h =
+    let bs = take (n * 2) (drop at p) in
+    let m : length bs ≡ n * 2 = length-take-le (n * 2) (drop at p) (omega (arith, length-drop at p)) in
+    let clear : bs ≡ writeAll (word 2 .write) (replicate n 0) = zeros-are bs h ∙ (ap (λ (k : ℕ). replicate k 0) m ∙ sym (written n)) in
+    ap (λ (k : ℕ). wordsAt k p at) (sym (length-replicate {A = ℕ} n 0))
+    ∙ words-read (replicate n 0) p at (drop (n * 2) (drop at p)) (small n)
+    (sym (take-append-drop (n * 2) (drop at p)) ∙ ap (λ (l : List ℕ). l ++ drop (n * 2) (drop at p)) clear)
   where
     small : (n : ℕ) → Words (replicate n 0)
     small zero = tt
     small (suc n) = (lit< tt, small n)
+
+    written : (n : ℕ) → writeAll (word 2 .write) (replicate n 0) ≡ replicate (n * 2) 0
+    written zero = refl
+    written (suc n) = let e : suc n * 2 ≡ suc (suc (n * 2)) = omega arith in rw e (ap (λ (l : List ℕ). 0 ∷ 0 ∷ l) (written n))

@@ -1,6 +1,6 @@
 // Whether a part is well-formed: each part of the rule is looked at once, in its order.
 ghost use mathlib.Core.Path.{_≡_};
-ghost use mathlib.Core.Bool.{_&&_};
+ghost use mathlib.Core.Bool.{true, _&&_};
 ghost use Prim.Native.Nat.{_+_, _*_, _≤_};
 ghost use lib.ListN.{length, drop};
 ghost use Rattle.drive.specs.Faults.{situationCodes, isIn, zeros, proper, properFaults};
@@ -182,6 +182,22 @@ fn situations_fit(part: &[u8]) -> bool
     true
 }
 
+// Whether no situation has a second code: mostly so, and then all are in order. No early exit, as in `join_all`.
+fn are_single(part: &[u8]) -> bool
+    requires { ⌜ length (now part) ≡ partSize ⌝ }
+    ensures { λ q. ⌜ (q ≡ true → properFaults (faultsOf (now (part .entry))) ≡ true) ⌝ }
+{
+    let mut seen: u8 = 0;
+    let mut k: usize = 0;
+    while k < drive::faults::SITUATIONS {
+        let at = catalogue::AT_947 as usize + k * (drive::faults::CODES * 2) + 2;
+        let end = at + (drive::faults::CODES - 1) * 2;
+        seen = super::runs::join(seen, super::runs::join_all(&part[at..end]));
+        k += 1;
+    }
+    seen == 0
+}
+
 // Mostly no code stands in the buffer, and one look at its bytes settles it.
 fn faults_fit(part: &[u8]) -> bool
     requires { ⌜ length (now part) ≡ partSize ⌝ }
@@ -190,6 +206,9 @@ fn faults_fit(part: &[u8]) -> bool
     let start = catalogue::AT_947 as usize;
     let end = catalogue::AT_965 as usize;
     if super::runs::is_clear(&part[start..end]) {
+        return true;
+    }
+    if are_single(part) {
         return true;
     }
     situations_fit(part)
@@ -223,6 +242,10 @@ fn unused_fits(part: &[u8]) -> bool
     ensures { λ q. ⌜ q ≡ unusedFit (now (part .entry)) ⌝ }
 {
     let n = codes::wide(super::waiting_length(part));
+    // Mostly none waits, and where they start is then known when this is compiled.
+    if n == 0 {
+        return super::runs::is_clear(&part[super::RESPONSE..]);
+    }
     if blocks::BLOCK_LIMIT < n {
         return true;
     }

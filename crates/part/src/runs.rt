@@ -20,21 +20,28 @@ pub(crate) fn clear_bytes(out: &mut [u8], at: usize, n: usize)
 }
 
 // 0 where both are.
-fn larger(a: u8, b: u8) -> u8
+pub(crate) fn join(a: u8, b: u8) -> u8
     ensures { λ r. ⌜ eqb r 0 ≡ (eqb a 0 && eqb b 0) ⌝ }
 {
-    if a < b { b } else { a }
+    a | b
 }
 
-// Whether every byte is 0, by the largest: no early exit, so that many bytes are compared at a time.
+// All bytes joined: no early exit, so that many are taken at a time.
+pub(crate) fn join_all(s: &[u8]) -> u8
+    ensures { λ r. ⌜ eqb r 0 ≡ zeros (now (s .entry)) ⌝ }
+{
+    let mut seen: u8 = 0;
+    let mut i: usize = 0;
+    while i < s.len() {
+        seen = join(seen, s[i]);
+        i += 1;
+    }
+    seen
+}
+
+// Whether every byte is 0.
 pub(crate) fn is_clear(s: &[u8]) -> bool
     ensures { λ r. ⌜ r ≡ zeros (now (s .entry)) ⌝ }
 {
-    let mut largest: u8 = 0;
-    let mut i: usize = 0;
-    while i < s.len() {
-        largest = larger(largest, s[i]);
-        i += 1;
-    }
-    largest == 0
+    join_all(s) == 0
 }

@@ -1,6 +1,6 @@
--- A buffer of zeros is proper.
+-- A buffer of zeros is proper, and so is one of single codes.
 use Rattle.part.proofs.Words.{clear-words}
-use Rattle.drive.specs.Faults.{situations, allProper}
+use Rattle.drive.specs.Faults.{situations, bufferCodes, allProper}
 use Rattle.catalogue.specs.Table.{rows, parameterBytes, findOf, offsetOf}
 use denote.Ref.{now}
 use native.Mathlib.Omega.{arith}
@@ -32,13 +32,19 @@ returns : tie.Need-returns
 unfolding offsetOf findOf rows parameterBytes
 returns c =
     let p = now (c .before .before .before .before .args .part) in
-    sym (ap (allProper situations) (clear-words p (offsetOf 947) (omega arith) (sym (c .before .is-clear .ensures) ∙ c .if1 .taken)))
+    sym (ap (allProper situations) (clear-words bufferCodes p (offsetOf 947) (omega arith) (sym (c .before .is-clear .ensures) ∙ c .if1 .taken)))
+
+are-single-requires : tie.Need-are-single-requires
+are-single-requires c κs = search needs
+
+returns-2 : tie.Need-returns-2
+returns-2 c = sym (c .before .are-single .ensures (c .if2 .taken))
 
 situations-fit-requires : tie.Need-situations-fit-requires
 situations-fit-requires c κs = search needs
 
-returns-2 : tie.Need-returns-2
-returns-2 c = search needs
+returns-3 : tie.Need-returns-3
+returns-3 c = search needs
 
 pub faults-fit-spec : {M : Type 1} → statement M
 faults-fit-spec =
@@ -51,5 +57,7 @@ faults-fit-spec =
     part-is-clear-end
     is-clear-requires
     returns
+    are-single-requires
+    returns-2
     situations-fit-requires
-    returns-2)
+    returns-3)
