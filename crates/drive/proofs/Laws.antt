@@ -1,4 +1,4 @@
--- The laws of a cycle that callers cite: those of the state after it, and from `Proper` those of the fault buffer. Assumes nothing.
+-- The laws of a cycle that callers cite: those of the state after it, and from `Proper` and `Quiet` those of the fault buffer. Assumes nothing.
 use mathlib.Core.Path.{_≡_, refl, sym, ap, _∙_}
 use mathlib.Core.Bool.{Bool, true, false, cond, not, _&&_, _||_, true≢false, false≢true, and-eq-true-iff}
 use mathlib.Core.Logic.{_⊎_, inl, inr}
@@ -15,6 +15,7 @@ use Rattle.drive.specs.Faults.{isEmptyOf}
 use Rattle.drive.specs.Cycle.{wordOf, wordUsed, acknowledges, afterAck, afterCode, nextOf, stateAfter, isS4, entersS4, cycleOf}
 use Rattle.drive.specs.Laws.{FaultMeansS1, EntryIntoS4, StayInS4, S4NeedsB1, Acknowledged, MustAcknowledge, NotAcknowledged}
 pub use Rattle.drive.proofs.Proper.{keeps-length, keeps-proper}
+pub use Rattle.drive.proofs.Quiet.{quiet-keeps-faults}
 
 pub fault-means-s1 : FaultMeansS1
 unfolding cycleOf stateAfter

@@ -1,15 +1,17 @@
 -- What callers may cite of every cycle in place of its text: from document 01, "Control cycle", steps 2 to 4, and the traps; from document
 -- 02, R-1, what an acknowledge and an entry into S4 are.
 -- Each is a statement here and a proof in proofs/.
-use mathlib.Core.Path.{_≡_}
+use mathlib.Core.Path.{Path, _≡_}
 use mathlib.Core.Bool.{true, false, not}
 use mathlib.Core.Logic.{_⊎_}
 use lib.ListN.{length}
 use Rattle.drive.specs.declared.states.State.the-variants.{S1, S3, S4, S51}
 use Rattle.drive.specs.declared.Drive.{Drive}
 use Rattle.drive.specs.declared.Input.{Input}
+use Rattle.drive.specs.declared.CycleEnd.{CycleEnd}
 use Rattle.drive.specs.Faults.{bufferCodes, isEmptyOf, acknowledgedOf, properFaults}
 use Rattle.drive.specs.Cycle.{bit, wordUsed, afterCode, cycleOf}
+use Rattle.drive.specs.Motion.{motionOf, withFaults, movedOf, quietOf}
 
 -- the fault buffer keeps its length
 abbrev pub KeepsLength : Type 0
@@ -55,3 +57,10 @@ MustAcknowledge =
 -- where it did not, step 3 alone has changed the buffer
 abbrev pub NotAcknowledged : Type 0
 NotAcknowledged = (d : Drive) (i : Input) → cycleOf d i .output .acknowledged ≡ false → cycleOf d i .drive .faults ≡ afterCode (i .fault) (d .faults)
+
+-- a quiet cycle leaves the faults as they are, and goes through the other steps
+abbrev pub QuietKeepsFaults : Type 0
+QuietKeepsFaults =
+    (d : Drive) (i : Input) → quietOf (d .word) (isEmptyOf (d .faults)) i ≡ true
+    → let end = movedOf (motionOf d) (not (isEmptyOf (d .faults))) false i in
+    Path CycleEnd (cycleOf d i) (record { drive = withFaults (end .motion) (d .faults); output = end .output })

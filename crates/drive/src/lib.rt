@@ -1,6 +1,7 @@
 // The control cycle of one axis.
 ghost use mathlib.Core.Path.{_≡_};
 ghost use Rattle.drive.specs.Cycle.{wordUsed, setpointUsed, effectiveOf, cycleOf, freshDrive};
+ghost use Rattle.drive.specs.Motion.{motionOf, withFaults, movedOf, quietOf};
 
 pub mod faults; // faults.rt: steps 2 and 3, the fault buffer
 pub mod speed; // speed.rt: normalised figures and revolutions
@@ -24,6 +25,16 @@ pub struct Drive {
     pub status: u16, // PNU 10102, ZSW1
     pub actual: N2, // PNU 10103, NIST_A
     pub faults: Faults,
+}
+
+// A drive record but for its faults.
+pub struct Motion {
+    pub state: State,
+    pub word: u16,
+    pub setpoint: N2,
+    pub effective: N2,
+    pub status: u16,
+    pub actual: N2,
 }
 
 // What a cycle is given: the telegram, then the axis's parameters.
@@ -53,6 +64,11 @@ pub struct CycleEnd {
     pub output: Output,
 }
 
+pub struct MotionEnd {
+    pub motion: Motion,
+    pub output: Output,
+}
+
 // A fresh axis.
 pub fn fresh() -> Drive
     ensures { λ r. ⌜ r ≡ freshDrive ⌝ }
@@ -66,6 +82,43 @@ pub fn fresh() -> Drive
         status: 0x0340,
         actual: N2(0),
         faults: empty,
+    }
+}
+
+// What a drive record holds beside its faults.
+pub fn motion_of(d: Drive) -> Motion
+    ensures { λ r. ⌜ r ≡ motionOf d ⌝ }
+{
+    let state = d.state;
+    let setpoint = d.setpoint;
+    let effective = d.effective;
+    let actual = d.actual;
+    Motion {
+        state: state,
+        word: d.word,
+        setpoint: setpoint,
+        effective: effective,
+        status: d.status,
+        actual: actual,
+    }
+}
+
+// The whole of it, with faults.
+pub fn with_faults(m: Motion, f: Faults) -> Drive
+    ensures { λ r. ⌜ r ≡ withFaults m f ⌝ }
+{
+    let state = m.state;
+    let setpoint = m.setpoint;
+    let effective = m.effective;
+    let actual = m.actual;
+    Drive {
+        state: state,
+        word: m.word,
+        setpoint: setpoint,
+        effective: effective,
+        status: m.status,
+        actual: actual,
+        faults: f,
     }
 }
 
@@ -103,38 +156,47 @@ fn effective_setpoint(s: State, b: word::Word, last: N2, setpoint: N2) -> N2
     N2(0)
 }
 
-// One control cycle of one axis, in the steps of document 01.
-pub fn cycle(d: Drive, i: Input) -> CycleEnd
-    ensures { λ r. ⌜ r ≡ cycleOf d i ⌝ }
+// Whether a cycle leaves the faults as they are: no code is sent, and nothing is acknowledged. `empty`: situation 0 is.
+pub fn is_quiet(last: u16, empty: bool, i: Input) -> bool
+    ensures { λ r. ⌜ r ≡ quietOf last empty i ⌝ }
 {
-    let last_state = d.state;
-    let last_setpoint = d.setpoint;
-    let last_effective = d.effective;
-    let last_faults = d.faults;
+    if i.fault != 0 {
+        return false;
+    }
+    if empty {
+        return true;
+    }
+    let before = word::decode(last);
+    let b = word::decode(word_used(i.stw1, last));
+    if b.b7 { before.b7 } else { true }
+}
+
+// Steps 1 and 4 to 7, which know of the faults only whether situation 0 is empty after steps 2 and 3.
+pub fn move_on(m: Motion, faulted: bool, acknowledged: bool, i: Input) -> MotionEnd
+    ensures { λ r. ⌜ r ≡ movedOf m faulted acknowledged i ⌝ }
+{
+    let last_state = m.state;
+    let last_setpoint = m.setpoint;
+    let last_effective = m.effective;
     let nsoll = i.nsoll;
     let nist = i.nist;
-    let w = word_used(i.stw1, d.word); // step 1
+    let w = word_used(i.stw1, m.word); // step 1
     let setpoint = setpoint_used(i.stw1, nsoll, last_setpoint);
     let b = word::decode(w);
-    let acknowledged = faults::acknowledges(b, word::decode(d.word), i.fault, last_faults); // step 2
-    let left = faults::after_ack(acknowledged, last_faults);
-    let f = faults::after_code(i.fault, left); // step 3
-    let empty = faults::is_empty(f); // step 4
-    let s = states::state_after(!empty, last_state, b, i.standstill);
+    let s = states::state_after(faulted, last_state, b, i.standstill); // step 4
     let entered = states::enters_s4(last_state, s);
     let e = effective_setpoint(s, b, last_effective, setpoint); // step 5
     let near = status::is_near(e, nist, i.window); // step 6
     let fast = status::is_fast(nist, i.threshold);
-    let z = status::status_word(s, !empty, b, i.warning, near, fast);
+    let z = status::status_word(s, faulted, b, i.warning, near, fast);
     let speed = scale(e, i.reference);
-    let drive = Drive { // step 7
+    let motion = Motion { // step 7
         state: s,
         word: w,
         setpoint: setpoint,
         effective: e,
         status: z,
         actual: nist,
-        faults: f,
     };
     let output = Output {
         state: s,
@@ -143,6 +205,26 @@ pub fn cycle(d: Drive, i: Input) -> CycleEnd
         acknowledged: acknowledged,
         entered: entered,
     };
+    MotionEnd {
+        motion: motion,
+        output: output,
+    }
+}
+
+// One control cycle of one axis, in the steps of document 01.
+pub fn cycle(d: Drive, i: Input) -> CycleEnd
+    ensures { λ r. ⌜ r ≡ cycleOf d i ⌝ }
+{
+    let last_faults = d.faults;
+    let b = word::decode(word_used(i.stw1, d.word)); // step 1, the word
+    let acknowledged = faults::acknowledges(b, word::decode(d.word), i.fault, last_faults); // step 2
+    let left = faults::after_ack(acknowledged, last_faults);
+    let f = faults::after_code(i.fault, left); // step 3
+    let empty = faults::is_empty(f);
+    let end = move_on(motion_of(d), !empty, acknowledged, i); // steps 1 and 4 to 7
+    let after = end.motion;
+    let output = end.output;
+    let drive = with_faults(after, f);
     CycleEnd {
         drive: drive,
         output: output,

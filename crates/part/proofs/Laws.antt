@@ -30,6 +30,7 @@ use Rattle.part.specs.WellFormed.{isState, limitsFit, fixedFit, waitingF
 use Rattle.part.proofs.Rule.{form-of, form-is}
 pub use Rattle.part.proofs.Cycled.{InputFits, loaded-fits, cycled-fits}
 pub use Rattle.part.proofs.Stored.{Fits, ofRecord, drive-length, drive-response, drive-element, stored-is-loaded}
+pub use Rattle.part.proofs.Quiet.{motion-stored}
 pub use Rattle.part.proofs.Held.{response-length, response-element, response-drive, waiting-length-is, waiting-is-given, response-again}
 use Rattle.part.proofs.Stored.{drive-limits, drive-fixed, state-stored, faults-stored}
 use Rattle.part.proofs.Held.{response-state, response-limits, response-fixed, response-faults, unused-zero, waits-well, waits-for-none, readable-short}

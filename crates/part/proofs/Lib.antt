@@ -9,6 +9,7 @@ pub mod Apart
 pub mod Stored
 pub mod Kept
 pub mod Held
+pub mod Quiet
 pub mod Laws
 pub mod Cycled
 pub mod Instances

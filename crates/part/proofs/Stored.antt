@@ -14,8 +14,10 @@ use Rattle.codes.proofs.Signed.{Within, bits-small, signed-bits}
 use Rattle.drive.specs.declared.states.State.{State}
 use Rattle.drive.specs.declared.states.State.the-variants.{S1, S2, S3, S4, S51, S52}
 use Rattle.drive.specs.declared.Drive.{Drive}
+use Rattle.drive.specs.declared.Motion.{Motion}
 use Rattle.drive.specs.declared.speed.N2.{N2}
 use Rattle.drive.specs.Faults.{bufferCodes}
+use Rattle.drive.specs.Motion.{motionOf}
 use Rattle.catalogue.specs.Table.{rows, findOf, offsetOf, parameterBytes}
 use Rattle.catalogue.specs.declared.Row.{Row}
 use Rattle.catalogue.specs.declared.Found.the-variants.{At}
@@ -45,18 +47,22 @@ word-write at x = record { at = at; size = 2; bytes = word 2 .write x; sized = w
 abbrev speed-write : ℕ → N2 → Write
 speed-write at v = word-write at (bitsOf 2 (v .0))
 
--- the places of a drive record, as `putDrive` goes through them
+-- the places of a drive record, as `putMotion` and then `putDrive` go through them
+abbrev pub motion-writes : Motion → List Write
+motion-writes m =
+    speed-write (offsetOf 10103) (m .actual)
+    ∷ word-write (offsetOf 10102) (m .status)
+    ∷ speed-write effectiveAt (m .effective)
+    ∷ speed-write (offsetOf 10101) (m .setpoint)
+    ∷ word-write (offsetOf 10100) (m .word)
+    ∷ record { at = stateAt; size = 1; bytes = numberOf (m .state) ∷ []; sized = refl }
+    ∷ []
+
 abbrev pub record-writes : (d : Drive) → length (d .faults .buffer) ≡ bufferCodes → List Write
 record-writes d whole =
     record { at = offsetOf 947; size = bufferCodes * 2; bytes = writeAll (word 2 .write) (d .faults .buffer); sized = all-length (word 2 .write) 2 (word-length 2) (d .faults .buffer) ∙ ap (λ (n : ℕ). n * 2) whole }
     ∷ word-write (offsetOf 944) (d .faults .counter)
-    ∷ speed-write (offsetOf 10103) (d .actual)
-    ∷ word-write (offsetOf 10102) (d .status)
-    ∷ speed-write effectiveAt (d .effective)
-    ∷ speed-write (offsetOf 10101) (d .setpoint)
-    ∷ word-write (offsetOf 10100) (d .word)
-    ∷ record { at = stateAt; size = 1; bytes = numberOf (d .state) ∷ []; sized = refl }
-    ∷ []
+    ∷ motion-writes (motionOf d)
 
 module _ (d : Drive) (p : List ℕ) (whole : length (d .faults .buffer) ≡ bufferCodes) where
   pub drive-puts : putDrive d p ≡ puts (record-writes d whole) p

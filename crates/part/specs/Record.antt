@@ -8,9 +8,11 @@ use Rattle.codes.specs.Number.{numberAt, numbersAt, put, signedOf, bitsOf}
 use Rattle.drive.specs.declared.states.State.{State}
 use Rattle.drive.specs.declared.states.State.the-variants.{S1, S2, S3, S4, S51, S52}
 use Rattle.drive.specs.declared.Drive.{Drive}
+use Rattle.drive.specs.declared.Motion.{Motion}
 use Rattle.drive.specs.declared.faults.Faults.{Faults}
 use Rattle.drive.specs.declared.speed.N2.{N2}
 use Rattle.drive.specs.Faults.{bufferCodes}
+use Rattle.drive.specs.Motion.{motionOf}
 use Rattle.catalogue.specs.Table.{offsetOf}
 use Rattle.part.specs.Layout.{stateAt, effectiveAt}
 
@@ -66,12 +68,15 @@ putSpeed at v p = putWord at (bitsOf 2 (v .0)) p
 abbrev pub putFaults : Faults → List ℕ → List ℕ
 putFaults f p = put (putWord (offsetOf 944) (f .counter) p) (offsetOf 947) (writeAll (word 2 .write) (f .buffer))
 
+-- what it holds beside the faults
+abbrev pub putMotion : Motion → List ℕ → List ℕ
+putMotion m p =
+    putSpeed (offsetOf 10103) (m .actual)
+    (putWord (offsetOf 10102) (m .status)
+    (putSpeed effectiveAt (m .effective)
+    (putSpeed (offsetOf 10101) (m .setpoint)
+    (putWord (offsetOf 10100) (m .word)
+    (put p stateAt (numberOf (m .state) ∷ []))))))
+
 unfoldable pub putDrive : Drive → List ℕ → List ℕ
-putDrive d p =
-    putFaults (d .faults)
-    (putSpeed (offsetOf 10103) (d .actual)
-    (putWord (offsetOf 10102) (d .status)
-    (putSpeed effectiveAt (d .effective)
-    (putSpeed (offsetOf 10101) (d .setpoint)
-    (putWord (offsetOf 10100) (d .word)
-    (put p stateAt (numberOf (d .state) ∷ [])))))))
+putDrive d p = putFaults (d .faults) (putMotion (motionOf d) p)

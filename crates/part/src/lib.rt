@@ -7,9 +7,12 @@ mod runs; // runs.rt: runs of bytes
 mod start; // start.rt: a fresh part
 
 pub use form::well_formed;
-pub use record::load;
+pub use record::is_empty;
+pub use record::load_faults;
+pub use record::load_motion;
 pub use record::number_of;
 pub use record::store;
+pub use record::store_motion;
 pub use response::clear_response;
 pub use response::put_response;
 pub use response::waiting_length;

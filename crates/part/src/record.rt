@@ -2,11 +2,13 @@
 ghost use mathlib.Core.Path.{_≡_};
 ghost use Rattle.codes.specs.Code.{word, writeAll};
 ghost use Rattle.codes.specs.Number.{put};
-ghost use Rattle.drive.specs.Faults.{bufferCodes};
+ghost use Rattle.drive.specs.Faults.{bufferCodes, isEmptyOf};
+ghost use Rattle.drive.specs.Motion.{motionOf};
 ghost use Rattle.catalogue.specs.Table.{offsetOf};
-ghost use Rattle.part.specs.Record.{numberOf, stateOf, wordsAt, speedAt, driveOf, putWord, putSpeed, putFaults, putDrive};
+ghost use Rattle.part.specs.Record.{numberOf, stateOf, wordsAt, speedAt, faultsOf, driveOf, putWord, putSpeed, putFaults, putMotion, putDrive};
 use drive::Drive;
 use drive::Faults;
+use drive::Motion;
 use drive::N2;
 use drive::State;
 
@@ -65,27 +67,39 @@ fn codes_of(part: &[u8]) -> [u16; drive::faults::BUFFER]
     b
 }
 
-// The drive record that a part holds.
-pub fn load(part: &[u8]) -> Drive
-    ensures { λ r. ⌜ r ≡ driveOf (now (part .entry)) ⌝ }
+// The faults that a part holds.
+pub fn load_faults(part: &[u8]) -> Faults
+    ensures { λ r. ⌜ r ≡ faultsOf (now (part .entry)) ⌝ }
 {
     let b = codes_of(part);
-    let f = Faults {
+    Faults {
         counter: codes::word_at(part, catalogue::AT_944 as usize),
         buffer: b,
-    };
+    }
+}
+
+// Whether situation 0 holds no code.
+pub fn is_empty(part: &[u8]) -> bool
+    ensures { λ r. ⌜ r ≡ isEmptyOf (faultsOf (now (part .entry))) ⌝ }
+{
+    codes::word_at(part, catalogue::AT_947 as usize) == 0
+}
+
+// The drive record that a part holds, but for its faults.
+pub fn load_motion(part: &[u8]) -> Motion
+    ensures { λ r. ⌜ r ≡ motionOf (driveOf (now (part .entry))) ⌝ }
+{
     let s = state_of(codes::byte_at(part, super::STATE));
     let setpoint = speed_at(part, catalogue::AT_10101 as usize);
     let effective = speed_at(part, super::EFFECTIVE);
     let actual = speed_at(part, catalogue::AT_10103 as usize);
-    Drive {
+    Motion {
         state: s,
         word: codes::word_at(part, catalogue::AT_10100 as usize),
         setpoint: setpoint,
         effective: effective,
         status: codes::word_at(part, catalogue::AT_10102 as usize),
         actual: actual,
-        faults: f,
     }
 }
 
@@ -123,20 +137,27 @@ fn put_faults(part: &mut [u8], f: Faults)
     put_codes(part, b);
 }
 
+// The part with another drive record, but for its faults.
+pub fn store_motion(part: &mut [u8], m: Motion)
+    ensures { λ r. ⌜ now (part .exit) ≡ putMotion m (now (part .entry)) ⌝ }
+{
+    let s = m.state;
+    let setpoint = m.setpoint;
+    let effective = m.effective;
+    let actual = m.actual;
+    codes::put_number(part, super::STATE, 1, number_of(s) as u32);
+    put_word(part, catalogue::AT_10100 as usize, m.word);
+    put_speed(part, catalogue::AT_10101 as usize, setpoint);
+    put_speed(part, super::EFFECTIVE, effective);
+    put_word(part, catalogue::AT_10102 as usize, m.status);
+    put_speed(part, catalogue::AT_10103 as usize, actual);
+}
+
 // The part with another drive record.
 pub fn store(part: &mut [u8], d: Drive)
     ensures { λ r. ⌜ now (part .exit) ≡ putDrive d (now (part .entry)) ⌝ }
 {
-    let s = d.state;
-    let setpoint = d.setpoint;
-    let effective = d.effective;
-    let actual = d.actual;
     let f = d.faults;
-    codes::put_number(part, super::STATE, 1, number_of(s) as u32);
-    put_word(part, catalogue::AT_10100 as usize, d.word);
-    put_speed(part, catalogue::AT_10101 as usize, setpoint);
-    put_speed(part, super::EFFECTIVE, effective);
-    put_word(part, catalogue::AT_10102 as usize, d.status);
-    put_speed(part, catalogue::AT_10103 as usize, actual);
+    store_motion(part, drive::motion_of(d));
     put_faults(part, f);
 }

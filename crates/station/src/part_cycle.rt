@@ -1,9 +1,13 @@
 // A control cycle on the part of its axis.
+ghost use mathlib.Core.Bool.{false};
 ghost use mathlib.Core.Path.{_≡_};
+ghost use Rattle.drive.specs.Motion.{movedOf};
+ghost use Rattle.part.specs.Record.{putMotion};
 ghost use Rattle.station.specs.Cycle.{inputOf, refusedCycle, cycled, cycleAnswer, cyclePart};
 use super::CycleDone;
 use super::Cycled;
 use drive::Input;
+use drive::Motion;
 use drive::N2;
 use drive::Output;
 
@@ -59,6 +63,18 @@ fn answered(a: Output) -> CycleDone
     }
 }
 
+// A cycle that leaves the faults as they are, and so neither loads nor stores them. `faulted`: situation 0 is not empty.
+fn quiet_cycle(part: &mut [u8], m: Motion, faulted: bool, i: Input) -> CycleDone
+    ensures { λ r. ⌜ r ≡ cycled (movedOf m faulted false i .output) ⌝ }
+    ensures { λ r. ⌜ now (part .exit) ≡ putMotion (movedOf m faulted false i .motion) (now (part .entry)) ⌝ }
+{
+    let e = drive::move_on(m, faulted, false, i);
+    let after = e.motion;
+    let a = e.output;
+    part::store_motion(part, after);
+    answered(a)
+}
+
 // A cycle of the axis k.
 pub(crate) fn cycle_on(
     part: &mut [u8],
@@ -79,7 +95,12 @@ pub(crate) fn cycle_on(
         return refused_cycle(12);
     }
     let i = input_of(part, flags, stw1, nsoll, nist, fault);
-    let c = drive::cycle_lent(part::load(part), i);
+    let m = part::load_motion(part);
+    let empty = part::is_empty(part);
+    if drive::is_quiet(m.word, empty, i) { // as nearly every cycle is
+        return quiet_cycle(part, m, !empty, i);
+    }
+    let c = drive::cycle_lent(drive::with_faults(m, part::load_faults(part)), i);
     let d = c.drive;
     let a = c.output;
     part::store(part, d);

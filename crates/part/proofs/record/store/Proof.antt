@@ -1,48 +1,14 @@
--- Each field is put at its place, in the order of the definition.
-use Prim.Native.Nat.{_<_}
-use native.Mathlib.Omega.{arith}
-use Rattle.part.proofs.Waiting.{byte-written}
+-- What stands beside the faults, then the faults.
 use Rattle.part.specs.Record.{putDrive}
-use Rattle.catalogue.specs.Table.{rows, parameterBytes, findOf, offsetOf}
 use borrow.Author.Needs.{needs}
 use Rattle.part.proofs.record.store.Statement.{statement}
 use Rattle.part.proofs.record.store.Tie as tie
 
-number-of-requires : tie.Need-number-of-requires
-number-of-requires c κs = search needs
+motion-of-requires : tie.Need-motion-of-requires
+motion-of-requires c κs = search needs
 
-cast-put-number : tie.Need-cast-put-number
-cast-put-number c = search needs
-
-put-number-requires : tie.Need-put-number-requires
-put-number-requires c κs = search needs
-
-cast-put-word : tie.Need-cast-put-word
-cast-put-word c = search needs
-
-put-word-requires : tie.Need-put-word-requires
-put-word-requires c κs = search needs
-
-cast-put-speed : tie.Need-cast-put-speed
-cast-put-speed c = search needs
-
-put-speed-requires : tie.Need-put-speed-requires
-put-speed-requires c κs = search needs
-
-put-speed-requires-2 : tie.Need-put-speed-requires-2
-put-speed-requires-2 c κs = search needs
-
-cast-put-word-2 : tie.Need-cast-put-word-2
-cast-put-word-2 c = search needs
-
-put-word-requires-2 : tie.Need-put-word-requires-2
-put-word-requires-2 c κs = search needs
-
-cast-put-speed-2 : tie.Need-cast-put-speed-2
-cast-put-speed-2 c = search needs
-
-put-speed-requires-3 : tie.Need-put-speed-requires-3
-put-speed-requires-3 c κs = search needs
+store-motion-requires : tie.Need-store-motion-requires
+store-motion-requires c κs = search needs
 
 put-faults-requires : tie.Need-put-faults-requires
 put-faults-requires c κs = search needs
@@ -51,38 +17,10 @@ same-length : tie.Need-same-length
 same-length c = search needs
 
 returns : tie.Need-returns
-unfolding putDrive offsetOf findOf rows parameterBytes
-returns c =
-    let n = c .before .before .before .before .before .before .before .before .before .before .before .before .before .before .before .before .before .before .before .before .before .before .before .before .before .before .before .number-of in
-    let small : n .result < 256 = omega (arith, n .ok) in
-    rw (
-      c .before .before .put-faults .ensures,
-      c .before .before .before .before .before .before .put-speed3 .ensures,
-      c .before .before .before .before .before .before .before .before .before .before .put-word2 .ensures,
-      c .before .before .before .before .before .before .before .before .before .before .before .before .before .before .put-speed2 .ensures,
-      c .before .before .before .before .before .before .before .before .before .before .before .before .before .before .before .before .before .before .put-speed .ensures,
-      c .before .before .before .before .before .before .before .before .before .before .before .before .before .before .before .before .before .before .before .before .before .before .put-word .ensures,
-      c .before .before .before .before .before .before .before .before .before .before .before .before .before .before .before .before .before .before .before .before .before .before .before .before .before .before .put-number .ensures,
-      byte-written (n .result) small,
-      n .ensures,
-    )
+unfolding putDrive
+returns c = rw (c .before .before .put-faults .ensures, c .before .before .before .before .before .before .store-motion .ensures, c .before .before .before .before .before .before .before .motion-of .ensures)
 
 pub store-spec : {M : Type 1} → statement M
 store-spec =
     tie.close
-    (tie.spec
-    number-of-requires
-    cast-put-number
-    put-number-requires
-    cast-put-word
-    put-word-requires
-    cast-put-speed
-    put-speed-requires
-    put-speed-requires-2
-    cast-put-word-2
-    put-word-requires-2
-    cast-put-speed-2
-    put-speed-requires-3
-    put-faults-requires
-    same-length
-    returns)
+    (tie.spec motion-of-requires store-motion-requires put-faults-requires same-length returns)

@@ -2,17 +2,8 @@
 use Rattle.part.specs.Record.{driveOf}
 use Rattle.catalogue.specs.Table.{rows, parameterBytes, findOf, offsetOf}
 use borrow.Author.Needs.{needs}
-use Rattle.part.proofs.record.load.Statement.{statement}
-use Rattle.part.proofs.record.load.Tie as tie
-
-codes-of-requires : tie.Need-codes-of-requires
-codes-of-requires c κs = search needs
-
-cast-word-at : tie.Need-cast-word-at
-cast-word-at c = search needs
-
-word-at-requires : tie.Need-word-at-requires
-word-at-requires c κs = search needs
+use Rattle.part.proofs.record.load_motion.Statement.{statement}
+use Rattle.part.proofs.record.load_motion.Tie as tie
 
 byte-at-requires : tie.Need-byte-at-requires
 byte-at-requires c κs = search needs
@@ -35,40 +26,35 @@ cast-speed-at-2 c = search needs
 speed-at-requires-3 : tie.Need-speed-at-requires-3
 speed-at-requires-3 c κs = search needs
 
+cast-word-at : tie.Need-cast-word-at
+cast-word-at c = search needs
+
+word-at-requires : tie.Need-word-at-requires
+word-at-requires c κs = search needs
+
 cast-word-at-2 : tie.Need-cast-word-at-2
 cast-word-at-2 c = search needs
 
 word-at-requires-2 : tie.Need-word-at-requires-2
 word-at-requires-2 c κs = search needs
 
-cast-word-at-3 : tie.Need-cast-word-at-3
-cast-word-at-3 c = search needs
-
-word-at-requires-3 : tie.Need-word-at-requires-3
-word-at-requires-3 c κs = search needs
-
 returns : tie.Need-returns
 unfolding driveOf offsetOf findOf rows parameterBytes
 returns c =
     rw (
-      c .word-at3 .ensures,
-      c .before .word-at2 .ensures,
+      c .word-at2 .ensures,
+      c .before .word-at .ensures,
       c .before .before .speed-at3 .ensures,
       c .before .before .before .speed-at2 .ensures,
       c .before .before .before .before .speed-at .ensures,
       c .before .before .before .before .before .state-of .ensures,
       c .before .before .before .before .before .before .byte-at .ensures,
-      c .before .before .before .before .before .before .before .word-at .ensures,
-      c .before .before .before .before .before .before .before .before .codes-of .ensures,
     )
 
-pub load-spec : {M : Type 1} → statement M
-load-spec =
+pub load-motion-spec : {M : Type 1} → statement M
+load-motion-spec =
     tie.close
     (tie.spec
-    codes-of-requires
-    cast-word-at
-    word-at-requires
     byte-at-requires
     state-of-requires
     cast-speed-at
@@ -76,8 +62,8 @@ load-spec =
     speed-at-requires-2
     cast-speed-at-2
     speed-at-requires-3
+    cast-word-at
+    word-at-requires
     cast-word-at-2
     word-at-requires-2
-    cast-word-at-3
-    word-at-requires-3
     returns)
