@@ -154,12 +154,12 @@ module _ (fits : ℕ → ℕ → Bool) (s : List ℕ) (b : Bytes s) (at : ℕ) w
         pub block-unfilled : filled f n s b (at + 2) room ≡ false → Nothing ≡ blockBy fits s at
         block-unfilled t = unread (values-unfilled f n s b (at + 2) room t)
 
-        pub block-long : filled f n s b (at + 2) room ≡ true → Stands (record { format = f; count = n; next = at + 2 + n * valueSize f + fillSize f n }) ≡ blockBy fits s at
+        pub block-long : filled f n s b (at + 2) room ≡ true → Stands (record { format = f; count = n; size = valueSize f; next = at + 2 + (n * valueSize f + fillSize f n) }) ≡ blockBy fits s at
         unfolding block
         block-long t =
             let v = values-filled f n s b (at + 2) room t in
             let c = values-count f n (v .0) (values-sound f n .only (drop (at + 2) s) (v .0) _ (v .1) .0) in
-            let z : length s - length (drop (at + 2 + valuesSize f n) s) ≡ at + 2 + n * valueSize f + fillSize f n = omega (arith, values-size f n, length-drop (at + 2 + valuesSize f n) s) in
+            let z : length s - length (drop (at + 2 + valuesSize f n) s) ≡ at + 2 + (n * valueSize f + fillSize f n) = omega (arith, values-size f n, length-drop (at + 2 + valuesSize f n) s) in
             rw (byte-at s b at (omega arith), byte-at s b (at + 1) (omega arith), e, two, v .1, c, z)
 
 -- a block that stands, as the layout reads it
@@ -168,6 +168,7 @@ pub record Stood (fits : ℕ → ℕ → Bool) (s : List ℕ) (at : ℕ) (h : He
   pub read : block fits .read (drop at s) ≡ got it (drop (h .next) s)
   pub format : h .format ≡ it .format
   pub count : h .count ≡ length (it .values)
+  pub size : h .size ≡ valueSize (it .format)
   pub inside : h .next ≤ length s
 
 module _ (fits : ℕ → ℕ → Bool) (s : List ℕ) (at : ℕ) where
@@ -185,6 +186,7 @@ module _ (fits : ℕ → ℕ → Bool) (s : List ℕ) (at : ℕ) where
             read = e ∙ ap (got b) (rest-stands b t e ∙ ap (λ (k : ℕ). drop k s) n);
             format = cc;
             count = cc;
+            size = cc;
             inside = omega arith;
           }
       go bad e q = absurd (let z : _≡_ {A = ℕ} 0 1 = cc in omega arith)
@@ -211,7 +213,7 @@ block-step fits s at n b bs t e =
     let p = first-read (block fits .read) n (drop at s) b bs t e in
     let stood = rest-stands fits s at b (p .0) (p .1) in
     record {
-      head = record { format = b .format; count = length (b .values); next = length s - length (p .0) };
+      head = record { format = b .format; count = length (b .values); size = valueSize (b .format); next = length s - length (p .0) };
       stands = rw (p .1);
       format = refl;
       count = refl;
@@ -268,14 +270,11 @@ module _ (s : List ℕ) (at j : ℕ) where
     unfolding valueAt
     value-past k = rw (st .read) (sym (List·getD-eq-default (st .it .values) 0 {n = j} (omega (arith, st .count))))
 
-    module _ (z : ℕ) (ez : z ≡ valueSize (h .format)) (k : j < h .count) where
-      size-is : z ≡ valueSize (st .it .format)
-      size-is = ez ∙ ap valueSize (st .format)
-
-      pub value-room : at + 2 + j * z ≤ length s
+    module _ (k : j < h .count) where
+      pub value-room : at + 2 + j * h .size ≤ length s
       value-room =
-          omega (arith, values-inside changeBlockFits s at (st .it) (drop (h .next) s) (st .read), mul-le-mul-right {m = j} {n = length (st .it .values)} z (omega (arith, st .count)), ap (λ (x : ℕ). length (st .it .values) * x) size-is)
+          omega (arith, values-inside changeBlockFits s at (st .it) (drop (h .next) s) (st .read), mul-le-mul-right {m = j} {n = length (st .it .values)} (h .size) (omega (arith, st .count)), ap (λ (x : ℕ). length (st .it .values) * x) (st .size))
 
-      pub value-here : numberAt z s (at + 2 + j * z) ≡ valueAt s at j
+      pub value-here : numberAt (h .size) s (at + 2 + j * h .size) ≡ valueAt s at j
       unfolding valueAt
-      value-here = rw (st .read, size-is) (value-stands changeBlockFits s at (st .it) (drop (h .next) s) j (st .read) (omega (arith, st .count)))
+      value-here = rw (st .read, st .size) (value-stands changeBlockFits s at (st .it) (drop (h .next) s) j (st .read) (omega (arith, st .count)))

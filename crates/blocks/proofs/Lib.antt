@@ -1,6 +1,7 @@
 pub mod Sound
 pub mod Page
 pub mod Demand
+pub mod Formats
 pub mod Blocks
 pub mod Turns
 pub mod Readable

@@ -1,12 +1,12 @@
 -- A block, written at a place of a slice: it goes in whole, or not at all.
 use mathlib.Core.Path.{_≡_, refl, sym, _∙_}
 use mathlib.Core.List.{List, [], _∷_, _++_}
-use Prim.Native.Nat.{ℕ, _+_, _*_, _≤_, _<_}
+use Prim.Native.Nat.{ℕ, _+_, _*_, _/_, _%_, _≤_, _<_}
 use native.Mathlib.Omega.{arith}
 use native.Mathlib.Numerals.{add-one}
 use lib.ListN.{length, set, replicate, length-append, length-replicate}
 use borrow.Author.Tests.{le-leb, lt-leb}
-use Rattle.codes.specs.Code.{writeAll}
+use Rattle.codes.specs.Code.{writeAll, word}
 use Rattle.codes.specs.Number.{put}
 use Rattle.codes.proofs.Put.{put-too-long, put-append, sets-put}
 use Rattle.codes.proofs.Items.{all-length}
@@ -62,3 +62,12 @@ module _ (l : List ℕ) (at f : ℕ) (vs : List ℕ) (few : length vs ≤ 255) w
 pub error-bytes : (e : ℕ) → blockBytes (record { format = 0x44; values = e ∷ [] }) ≡ 0x44 ∷ 1 ∷ numberBytes 2 e
 unfolding valueSize
 error-bytes e = refl
+
+-- the bytes of an error block, as one number of four bytes
+pub error-number : (e : ℕ) → e < 65536 → word 4 .write (0x44010000 + e) ≡ 0x44 ∷ 1 ∷ numberBytes 2 e
+error-number e h =
+    let first : (0x44010000 + e) / 256 / 256 / 256 % 256 ≡ 0x44 = omega arith in
+    let second : (0x44010000 + e) / 256 / 256 % 256 ≡ 1 = omega arith in
+    let third : (0x44010000 + e) / 256 % 256 ≡ e / 256 % 256 = omega arith in
+    let fourth : (0x44010000 + e) % 256 ≡ e % 256 = omega arith in
+    rw (first, second, third, fourth) refl

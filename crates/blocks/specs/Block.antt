@@ -33,6 +33,10 @@ formatSize f = cond (oneByte f) 1 (cond (twoBytes f) 2 (cond (fourBytes f) 4 0))
 unfoldable pub valueSize : ℕ → ℕ
 valueSize f = cond (eqb f 0x44) 2 (formatSize f)
 
+-- the same by the codes of a response alone, 0x40 to 0x44: a data type has none
+unfoldable pub codeSize : ℕ → ℕ
+codeSize f = cond (leb 0x40 f) (valueSize f) 0
+
 -- Which blocks stand in a change: "No other format" than those that have a size; with any number of values.
 unfoldable pub changeBlockFits : ℕ → ℕ → Bool
 changeBlockFits f n = ltb 0 (formatSize f)

@@ -12,7 +12,7 @@ use Rattle.blocks.specs.declared.BlockAt.the-variants.{Stands, Nothing}
 use Rattle.blocks.specs.declared.reader.Address.{Address}
 use Rattle.blocks.specs.declared.reader.Step.{Step}
 use Rattle.blocks.specs.declared.reader.Step.the-variants.{Next, End}
-use Rattle.blocks.specs.Block.{Block, changeBlockFits, block}
+use Rattle.blocks.specs.Block.{Block, valueSize, changeBlockFits, block}
 use Rattle.blocks.specs.Request.{address}
 use Rattle.blocks.specs.Page.{blockBytes}
 
@@ -29,9 +29,9 @@ headerOf s =
 abbrev pub headerBytes : Header → List ℕ
 headerBytes h = h .reference ∷ h .identifier ∷ h .axis ∷ h .count ∷ []
 
--- the format and the count of a block that was read in a list of n bytes, and where the next begins
+-- the format and the count of a block that was read in a list of n bytes, the bytes of each value, and where the next begins
 abbrev pub headOf : ℕ → Got Block → BlockAt
-headOf n (got b t) = Stands (record { format = b .format; count = length (b .values); next = n - length t })
+headOf n (got b t) = Stands (record { format = b .format; count = length (b .values); size = valueSize (b .format); next = n - length t })
 headOf n bad = Nothing
 
 -- the block of a change that stands at a place

@@ -1,27 +1,24 @@
--- Which blocks the code's walk meets and where it stands, said as what a reader on lists finds. No contract of a public function cites
+-- Where the code's walk over blocks stands, said as what a reader on lists finds. No contract of a public function cites
 -- this page.
 use mathlib.Core.Path.{_≡_}
 use mathlib.Core.List.{List}
-use mathlib.Core.Bool.{Bool, cond, not, _||_}
-use Prim.Native.Nat.{ℕ, _≤_}
-use lib.ListN.{length, drop}
+use mathlib.Core.Bool.{Bool, true, cond, not, _||_}
+use Prim.Native.Nat.{ℕ, _+_, _≤_}
+use lib.ListN.{length, getD, drop}
 use Rattle.codes.specs.Code.{Got, got, bad, andThen}
 use Rattle.blocks.specs.declared.BlockAt.{BlockAt}
-use Rattle.blocks.specs.declared.layout.Blocks.{Blocks}
-use Rattle.blocks.specs.declared.layout.Blocks.the-variants.{OfChange, OfResponse}
 use Rattle.blocks.specs.declared.Walk.{Walk}
 use Rattle.blocks.specs.declared.Walk.the-variants.{At, Bad}
-use Rattle.blocks.specs.Block.{changeBlockFits, responseBlockFits, block}
+use Rattle.blocks.specs.Block.{block}
 use Rattle.blocks.specs.Place.{headOf}
-
--- the rule of the blocks that are walked
-abbrev pub ruleOf : Blocks → ℕ → ℕ → Bool
-ruleOf OfChange = changeBlockFits
-ruleOf (OfResponse id) = responseBlockFits id
 
 -- the block that stands at a place by a rule
 abbrev pub blockBy : (ℕ → ℕ → Bool) → List ℕ → ℕ → BlockAt
 blockBy fits s at = headOf (length s) (block fits .read (drop at s))
+
+-- r is the block at a place by every rule that its format and its count pass
+abbrev pub ByRules : List ℕ → ℕ → BlockAt → Type 0
+ByRules s at r = (fits : ℕ → ℕ → Bool) → fits (getD s at 0) (getD s (at + 1) 0) ≡ true → r ≡ blockBy fits s at
 
 abbrev pub mapGot : {A B : Type 0} → (A → B) → Got A → Got B
 mapGot f g = andThen g (λ a t. got (f a) t)

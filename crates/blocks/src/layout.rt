@@ -1,33 +1,55 @@
 // Formats, their sizes, and which blocks may stand where.
 ghost use mathlib.Core.Path.{_≡_};
+ghost use mathlib.Core.Bool.{false, _&&_};
 ghost use Prim.Native.Nat.{_*_, _≤_};
-ghost use Rattle.blocks.specs.Block.{formatSize, valueSize, valueFits, errorFits, emptyFits, responseBlockFits, fillSize};
+ghost use lib.Dec.{leb};
+ghost use Rattle.blocks.specs.Block.{formatSize, valueSize, codeSize, valueFits, errorFits, emptyFits, responseBlockFits, fillSize};
 ghost use Rattle.blocks.specs.Request.{requestBlocks};
 ghost use Rattle.blocks.specs.Response.{responseBlocks, isAnswer};
-ghost use Rattle.blocks.specs.Walk.{ruleOf};
 
-// Whose blocks a walk meets: a change's, or those of a response with an identifier.
-pub enum Blocks {
-    OfChange,
-    OfResponse(u8),
-}
-
-// Bytes of one value, by its format; 0 where there is no such format.
-fn format_size(f: u8) -> usize
+// Bytes of one value of a data type; 0 where f is none.
+fn type_size(f: u8) -> usize
+    requires { ⌜ (leb 0x41 f && leb f 0x43) ≡ false ⌝ }
     ensures { λ r. ⌜ (r ≡ formatSize f) × (r ≤ 4) ⌝ }
 {
     match f {
-        0x41 | 2 | 5 => 1,
-        0x42 | 3 | 6 => 2,
-        0x43 | 4 | 7 => 4,
+        2 | 5 => 1,
+        3 | 6 => 2,
+        4 | 7 => 4,
         _ => 0,
+    }
+}
+
+// Bytes of one value by a code of a response: a size code's or an error word's; 0 where f is neither.
+pub fn code_size(f: u8) -> usize
+    ensures { λ r. ⌜ (r ≡ codeSize f) × (r ≤ 4) ⌝ }
+{
+    match f {
+        0x41 => 1,
+        0x42 | 0x44 => 2,
+        0x43 => 4,
+        _ => 0,
+    }
+}
+
+// Bytes of one value, by its format; 0 where there is no such format. Most values are words; codes and types are two dense tables.
+pub fn format_size(f: u8) -> usize
+    ensures { λ r. ⌜ (r ≡ formatSize f) × (r ≤ 4) ⌝ }
+{
+    if f == 0x42 {
+        return 2;
+    }
+    if codes::between(0x41, f, 0x43) {
+        code_size(f)
+    } else {
+        type_size(f)
     }
 }
 
 pub fn value_size(f: u8) -> usize
     ensures { λ r. ⌜ (r ≡ valueSize f) × (r ≤ 4) ⌝ }
 {
-    if f == 0x44 { 2 } else { format_size(f) }
+    if f < 0x41 { type_size(f) } else { code_size(f) }
 }
 
 // Bytes of a block's values: of each, of all of them, and how many fill these up to an even number.
@@ -53,16 +75,11 @@ pub fn sizes_of(f: u8, n: u8) -> Sizes
 fn value_fits(f: u8, n: u8) -> bool
     ensures { λ r. ⌜ r ≡ valueFits f n ⌝ }
 {
-    if f == 0x41 {
-        return 1 <= n;
+    if codes::between(0x41, f, 0x43) {
+        1 <= n
+    } else {
+        false
     }
-    if f == 0x42 {
-        return 1 <= n;
-    }
-    if f == 0x43 {
-        return 1 <= n;
-    }
-    false
 }
 
 fn error_fits(f: u8, n: u8) -> bool
@@ -78,7 +95,7 @@ fn empty_fits(f: u8, n: u8) -> bool
 }
 
 // Whether a block of format f with n values may stand in a response with the identifier `id`.
-fn response_block_fits(id: u8, f: u8, n: u8) -> bool
+pub fn response_block_fits(id: u8, f: u8, n: u8) -> bool
     ensures { λ r. ⌜ r ≡ responseBlockFits id f n ⌝ }
 {
     if id == 1 {
@@ -89,16 +106,6 @@ fn response_block_fits(id: u8, f: u8, n: u8) -> bool
         codes::either(value_fits(f, n), e)
     } else {
         codes::either(empty_fits(f, n), e)
-    }
-}
-
-// Whether a block of format f with n values may be one of these.
-pub fn block_fits(these: Blocks, f: u8, n: u8) -> bool
-    ensures { λ r. ⌜ r ≡ ruleOf these f n ⌝ }
-{
-    match these {
-        Blocks::OfChange => 0 < format_size(f),
-        Blocks::OfResponse(id) => response_block_fits(id, f, n),
     }
 }
 

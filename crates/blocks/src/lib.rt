@@ -5,16 +5,18 @@ ghost use Prim.Native.Nat.{_+_, _≤_};
 ghost use lib.Dec.{eqb};
 ghost use lib.ListN.{length, getD, drop};
 ghost use Rattle.codes.specs.Code.{isWhole, times, readable};
-ghost use Rattle.blocks.specs.Block.{blockLimit, block};
+ghost use Rattle.blocks.specs.Block.{blockLimit, valueSize, changeBlockFits, responseBlockFits, block};
 ghost use Rattle.blocks.specs.Request.{request};
 ghost use Rattle.blocks.specs.Response.{hasError, response};
 ghost use Rattle.blocks.specs.Place.{headerOf, blockAt, valueAt};
-ghost use Rattle.blocks.specs.Walk.{ruleOf, blockBy, mapGot, standing, InBlock, Walked, erring};
-use layout::Blocks;
+ghost use Rattle.blocks.specs.Walk.{blockBy, ByRules, mapGot, standing, InBlock, Walked, erring};
 
 mod layout;
 pub mod reader;
 pub mod writer;
+
+pub use layout::code_size;
+pub use layout::format_size;
 
 // The most bytes of a block.
 pub const BLOCK_LIMIT: usize = 240;
@@ -30,10 +32,11 @@ pub struct Header {
     pub count: u8,
 }
 
-// How a block of values begins, and where the next one does.
+// How a block of values begins, the bytes of each value, and where the next block begins.
 pub struct Head {
     pub format: u8,
     pub count: u8,
+    pub size: usize,
     pub next: usize,
 }
 
@@ -70,33 +73,26 @@ fn is_filled(s: &[u8], at: usize, fill: usize) -> bool
     s[at] == 0
 }
 
-// The block of values at `at`, by the rule of those that it is one of.
-fn block_by(s: &[u8], at: usize, these: Blocks) -> BlockAt
-    ensures { λ r. ⌜ r ≡ blockBy (ruleOf these) (now (s .entry)) at ⌝ }
+// The block at `at`, whose two first bytes stand there and whose values take `each` bytes: for every rule that it passes.
+fn sized(s: &[u8], at: usize, each: usize) -> BlockAt
+    requires { ⌜ (at + 2 ≤ length (now s)) × (each ≡ valueSize (getD (now s) at 0)) ⌝ }
+    ensures { λ r. ⌜ ByRules (now (s .entry)) at r ⌝ }
 {
-    if s.len() < 2 {
-        return BlockAt::Nothing;
-    }
-    if s.len() - 2 < at {
-        return BlockAt::Nothing;
-    }
-    let f = s[at];
     let n = s[at + 1];
-    if !layout::block_fits(these, f, n) {
+    let bare = codes::wide(n) * each;
+    let fill = bare % 2;
+    let filled = bare + fill;
+    if s.len() - 2 - at < filled {
         return BlockAt::Nothing;
     }
-    let z = layout::sizes_of(f, n);
-    if s.len() - 2 - at < z.bare + z.fill {
-        return BlockAt::Nothing;
-    }
-    let end = at + 2 + z.bare;
-    if !is_filled(s, end, z.fill) {
+    if !is_filled(s, at + 2 + bare, fill) {
         return BlockAt::Nothing;
     }
     let h = Head {
-        format: f,
+        format: s[at],
         count: n,
-        next: end + z.fill,
+        size: each,
+        next: at + 2 + filled,
     };
     BlockAt::Stands(h)
 }
@@ -105,7 +101,34 @@ fn block_by(s: &[u8], at: usize, these: Blocks) -> BlockAt
 pub fn block_at(s: &[u8], at: usize) -> BlockAt
     ensures { λ r. ⌜ r ≡ blockAt (now (s .entry)) at ⌝ }
 {
-    block_by(s, at, Blocks::OfChange)
+    if s.len() < 2 {
+        return BlockAt::Nothing;
+    }
+    if s.len() - 2 < at {
+        return BlockAt::Nothing;
+    }
+    let each = layout::format_size(s[at]);
+    if each == 0 {
+        return BlockAt::Nothing;
+    }
+    sized(s, at, each)
+}
+
+// The block at `at` of a response with the identifier `id`.
+fn answer_at(s: &[u8], at: usize, id: u8) -> BlockAt
+    ensures { λ r. ⌜ r ≡ blockBy (responseBlockFits id) (now (s .entry)) at ⌝ }
+{
+    if s.len() < 2 {
+        return BlockAt::Nothing;
+    }
+    if s.len() - 2 < at {
+        return BlockAt::Nothing;
+    }
+    let f = s[at];
+    if !layout::response_block_fits(id, f, s[at + 1]) {
+        return BlockAt::Nothing;
+    }
+    sized(s, at, layout::code_size(f))
 }
 
 // The j-th value of the block of a change that stands at `at`.
@@ -116,24 +139,43 @@ pub fn value_at(s: &[u8], at: usize, j: usize) -> u32
     let BlockAt::Stands(h) = b else {
         return 0;
     };
-    let size = layout::value_size(h.format);
     if j < codes::wide(h.count) {
-        codes::number_at(s, at + 2 + j * size, size)
+        codes::number_at(s, at + 2 + j * h.size, h.size)
     } else {
         0
     }
 }
 
-// Where n of these blocks that start at `from` end.
-fn blocks_end(s: &[u8], from: usize, n: usize, these: Blocks) -> Walk
+// Where n blocks of a change that start at `from` end. This walk and the next are two, so that neither looks up its rule at each block.
+fn change_end(s: &[u8], from: usize, n: usize) -> Walk
     requires { ⌜ from ≤ length (now s) ⌝ }
-    ensures { λ r. ⌜ Walked (now (s .entry)) (mapGot hasError (times n (block (ruleOf these)) .read (drop from (now (s .entry))))) r ⌝ }
+    ensures { λ r. ⌜ Walked (now (s .entry)) (mapGot hasError (times n (block changeBlockFits) .read (drop from (now (s .entry))))) r ⌝ }
 {
     let mut at = from;
     let mut left = n;
     let mut error = false;
     while 0 < left {
-        let b = block_by(s, at, these);
+        let b = block_at(s, at);
+        let BlockAt::Stands(h) = b else {
+            return Walk::Bad;
+        };
+        at = h.next;
+        error = codes::either(error, h.format == 0x44);
+        left -= 1;
+    }
+    Walk::At(at, error)
+}
+
+// Where n blocks of a response with the identifier `id` that start at `from` end.
+fn answer_end(s: &[u8], from: usize, n: usize, id: u8) -> Walk
+    requires { ⌜ from ≤ length (now s) ⌝ }
+    ensures { λ r. ⌜ Walked (now (s .entry)) (mapGot hasError (times n (block (responseBlockFits id)) .read (drop from (now (s .entry))))) r ⌝ }
+{
+    let mut at = from;
+    let mut left = n;
+    let mut error = false;
+    while 0 < left {
+        let b = answer_at(s, at, id);
         let BlockAt::Stands(h) = b else {
             return Walk::Bad;
         };
@@ -186,7 +228,7 @@ pub fn request_readable(block: &[u8]) -> bool
     }
     whole(
         block,
-        blocks_end(block, from, layout::request_blocks(id, n), Blocks::OfChange),
+        change_end(block, from, layout::request_blocks(id, n)),
         false,
     )
 }
@@ -214,12 +256,7 @@ pub fn response_readable(block: &[u8]) -> bool
     }
     whole(
         block,
-        blocks_end(
-            block,
-            4,
-            layout::response_blocks(id, n),
-            Blocks::OfResponse(id),
-        ),
+        answer_end(block, 4, layout::response_blocks(id, n), id),
         0x81 <= id,
     )
 }

@@ -43,14 +43,13 @@ fn address_here(s: &[u8], at: usize) -> Address
 fn step_at(s: &[u8], at: usize) -> Step
     ensures { λ r. ⌜ r ≡ stepAt (now (s .entry)) at ⌝ }
 {
-    let end = FIRST + codes::wide(codes::byte_at(s, 3)) * 6;
-    if end < 6 {
+    if s.len() < 6 {
         return Step::End;
     }
-    if end - 6 < at {
+    if s.len() - 6 < at {
         return Step::End;
     }
-    if s.len() < at + 6 {
+    if FIRST + codes::wide(codes::byte_at(s, 3)) * 6 < at + 6 {
         return Step::End;
     }
     Step::Next(address_here(s, at), at + 6)

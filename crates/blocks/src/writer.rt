@@ -78,13 +78,12 @@ pub fn put_block(out: &mut [u8], at: usize, f: u8, values: &[u32])
 pub fn put_empty(out: &mut [u8], at: usize)
     ensures { λ r. ⌜ now (out .exit) ≡ put (now (out .entry)) at (0x40 ∷ 0 ∷ []) ⌝ }
 {
-    put_block(out, at, 0x40, &[]);
+    codes::put_number(out, at, 2, 0x4000);
 }
 
 // `44 01` and the error word.
 pub fn put_error(out: &mut [u8], at: usize, error: u16)
     ensures { λ r. ⌜ now (out .exit) ≡ put (now (out .entry)) at (0x44 ∷ 1 ∷ numberBytes 2 error) ⌝ }
 {
-    let values = [error as u32];
-    put_block(out, at, 0x44, &values);
+    codes::put_number(out, at, 4, 0x44010000 + (error as u32));
 }

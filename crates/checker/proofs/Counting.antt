@@ -1,33 +1,38 @@
 -- The loop over the blocks of a response: what is left to be held against the addresses is what was to be held at first.
 use mathlib.Core.Path.{_≡_, refl, sym, _∙_, ap}
 use mathlib.Core.Bool.{Bool, true, false}
-use mathlib.Core.List.{List, [], _∷_}
-use Prim.Native.Nat.{ℕ, zero, suc, _+_, _-_, _*_, _<_}
+use mathlib.Core.List.{List, [], _∷_, _++_}
+use Prim.Native.Nat.{ℕ, zero, suc, _+_, _-_, _≤_, _<_}
 use native.Mathlib.Omega.{arith}
 use native.Mathlib.Numerals.{sub-one}
-use native.Mathlib.Nat.{suc-mul}
-use lib.ListN.{length, drop}
+use lib.ListN.{length, getD, drop, length-append, length-drop}
 use borrow.Author.Tests.{ne-eqb}
 use Rattle.codes.specs.Code.{got, readTimes}
 use Rattle.codes.specs.Number.{numberAt}
 use Rattle.codes.proofs.Sound.{times-sound}
+use Rattle.codes.proofs.Fixed.{Bytes}
 use Rattle.codes.proofs.Items.{first-read}
+use Rattle.codes.proofs.Number.{byte-number}
 use Rattle.blocks.specs.declared.Header.{Header}
 use Rattle.blocks.specs.declared.reader.Address.{Address}
-use Rattle.blocks.specs.declared.reader.Step.the-variants.{Next, End}
 use Rattle.blocks.specs.Block.{Block, responseBlockFits, valuesSize, block}
 use Rattle.blocks.specs.Request.{Request, address, request}
 use Rattle.blocks.specs.Response.{Response, responseBlocks, response}
-use Rattle.blocks.specs.Place.{headerOf, addressesEnd, stepAt}
-use Rattle.blocks.proofs.Sound.{block-sound}
-use Rattle.blocks.proofs.Request.{addresses-read, addresses-end, response-header, answers-read, format-here, count-here, after-block}
-use Rattle.blocks.proofs.Addresses.{address-end, address-step}
+use Rattle.blocks.specs.Page.{blockBytes}
+use Rattle.blocks.specs.Place.{headerOf, addressesEnd}
+use Rattle.blocks.proofs.Sound.{address-sound, block-sound}
+use Rattle.blocks.proofs.Page.{block-bytes, block-valid}
+use Rattle.blocks.proofs.Formats.{answer-code}
+use Rattle.blocks.proofs.Parts.{block-written}
+use Rattle.blocks.proofs.Request.{request-header, addresses-read, response-header, answers-read, format-here, count-here, after-block}
+use Rattle.blocks.proofs.Addresses.{address-here}
 use Rattle.checker.specs.Check.{countFits, countsFit}
+use Rattle.checker.specs.Inner.{BothRead, BothCount, AsRead}
+use Rattle.checker.proofs.Judging.{once}
 
--- the addresses and blocks that are left, from a place of each block on
+-- as many addresses and blocks are left, from a place of each block on
 pub record Left (s t : List ℕ) (q : Request) (r : Response) (from at n : ℕ) (them : List Address) (bs : List Block) : Type 0 where
-  pub addresses : readTimes (address .read) (length them) (drop from s) ≡ got them (drop (addressesEnd s) s)
-  pub ends : addressesEnd s ≡ from + length them * 6
+  pub addresses : readTimes (address .read) n (drop from s) ≡ got them (drop (addressesEnd s) s)
   pub blocks : readTimes (block (responseBlockFits (r .identifier)) .read) n (drop at t) ≡ got bs []
   pub todo : countsFit them bs ≡ countsFit (q .addresses) (r .blocks)
 
@@ -42,110 +47,138 @@ unfolding countsFit
 counts-none [] = refl
 counts-none (a ∷ more) = refl
 
-module _ (s t : List ℕ) (q : Request) (r : Response) where
+module _ (s t : List ℕ) (q : Request) (r : Response) (es : request .read s ≡ got q []) (et : response .read t ≡ got r []) where
+  identifier-is : headerOf t .identifier ≡ r .identifier
+  identifier-is = ap (λ (h : Header). h .identifier) (response-header t r [] et)
+
+  -- "02 ends there"
+  pub unanswered : headerOf t .identifier ≡ 2 → countsFit (q .addresses) (r .blocks) ≡ true
+  unfolding responseBlocks
+  unanswered two =
+      let e = answers-read t r [] et in
+      let none : got [] (drop 4 t) ≡ got (r .blocks) [] = rw (sym identifier-is ∙ two) at e in
+      let empty : [] ≡ r .blocks = cc in
+      ap (countsFit (q .addresses)) (sym empty) ∙ counts-none (q .addresses)
+
+  pub begins : (n : ℕ) → BothCount s t n → Counting s t q r 4 4 n
+  unfolding responseBlocks
+  begins n h =
+      let asked : length (q .addresses) ≡ n = ap (λ (k : Header). k .count) (sym (request-header s q [] es)) ∙ h .0 in
+      let count : r .count ≡ n = ap (λ (k : Header). k .count) (sym (response-header t r [] et)) ∙ h .1 in
+      let e = answers-read t r [] et in
+      record {
+        them = q .addresses;
+        bs = r .blocks;
+        left =
+            record {
+              addresses = rw (← asked) (addresses-read s q [] es);
+              blocks = rw (← count) (rw (ne-eqb (r .identifier) 2 (λ z. h .2 (identifier-is ∙ z))) at e);
+              todo = refl;
+            };
+      }
+
+-- no block is left
+pub no-block : (s t : List ℕ) (q : Request) (r : Response) (from at : ℕ) → Counting s t q r from at 0 → true ≡ countsFit (q .addresses) (r .blocks)
+no-block s t q r from at c =
+    let e = c .left .blocks in
+    let empty : [] ≡ c .bs = cc in
+    sym (counts-none (c .them)) ∙ (ap (countsFit (c .them)) empty ∙ c .left .todo)
+
+-- what stands at two places
+pub record Stand (s t : List ℕ) (from at : ℕ) : Type 0 where
+  pub address : from + 6 ≤ length s
+  pub format : 0x40 ≤ getD t at 0
+  pub block : at + (2 + valuesSize (getD t at 0) (getD t (at + 1) 0)) ≤ length t
+
+-- an address and a block there: the loop ends here, or goes on
+pub record Turn (s t : List ℕ) (q : Request) (r : Response) (from at n : ℕ) : Type 0 where
+  pub stand : Stand s t from at
+  pub fails : countFits (getD s (from + 1) 0) (getD t at 0) (getD t (at + 1) 0) ≡ false → false ≡ countsFit (q .addresses) (r .blocks)
+  pub goes : countFits (getD s (from + 1) 0) (getD t at 0) (getD t (at + 1) 0) ≡ true → Counting s t q r (from + 6) (at + (2 + valuesSize (getD t at 0) (getD t (at + 1) 0))) n
+
+module _ (s t : List ℕ) (bytes-s : Bytes s) (bytes-t : Bytes t) (q : Request) (r : Response) (from at : ℕ) where
   abbrev rule : ℕ → ℕ → Bool
   rule = responseBlockFits (r .identifier)
 
-  module _ (es : request .read s ≡ got q []) (et : response .read t ≡ got r []) where
-    identifier-is : headerOf t .identifier ≡ r .identifier
-    identifier-is = ap (λ (h : Header). h .identifier) (response-header t r [] et)
+  -- the address that is read here: where it ends, and the elements that it asks
+  module _ (x : Address) (u : List ℕ) (e : address .read (drop from s) ≡ got x u) where
+    address-room : from + 6 ≤ length s
+    unfolding address
+    address-room = omega (arith, ap length (address-sound .only (drop from s) x u e .1), length-drop from s)
 
-    count-is : headerOf t .count ≡ r .count
-    count-is = ap (λ (h : Header). h .count) (response-header t r [] et)
+    abbrev here : Address
+    here = record { attribute = numberAt 1 s from; elements = numberAt 1 s (from + 1); pnu = numberAt 2 s (from + 2); subindex = numberAt 2 s (from + 4) }
 
-    -- "02 ends there"
-    pub unanswered : headerOf t .identifier ≡ 2 → true ≡ countsFit (q .addresses) (r .blocks)
-    unfolding responseBlocks
-    unanswered two =
-        let e = answers-read t r [] et in
-        let none : got [] (drop 4 t) ≡ got (r .blocks) [] = rw (sym identifier-is ∙ two) at e in
-        let empty : [] ≡ r .blocks = cc in
-        sym (ap (countsFit (q .addresses)) (sym empty) ∙ counts-none (q .addresses))
+    same : got x u ≡ got here (drop (from + 6) s)
+    same = sym e ∙ address-here s bytes-s from address-room here refl refl refl refl
 
-    pub begins : (headerOf t .identifier ≡ 2 → ⊥) → Counting s t q r 4 4 (headerOf t .count)
-    unfolding responseBlocks
-    begins other =
-        let e = answers-read t r [] et in
-        record {
-          them = q .addresses;
-          bs = r .blocks;
-          left =
-              record {
-                addresses = addresses-read s q [] es;
-                ends = addresses-end s q [] es;
-                blocks = rw count-is (rw (ne-eqb (r .identifier) 2 (λ z. other (identifier-is ∙ z))) at e);
-                todo = refl;
-              };
-        }
+    address-rest : u ≡ drop (from + 6) s
+    address-rest = let z = same in cc
 
-  module _ (from at : ℕ) where
-    -- no address stands here, so none is left
-    pub no-address : (n : ℕ) → stepAt s from ≡ End → Counting s t q r from at n → true ≡ countsFit (q .addresses) (r .blocks)
-    unfolding countsFit
-    no-address n e c = go (c .them) (c .left)
-      where
-        go : (them : List Address) → Left s t q r from at n them (c .bs) → true ≡ countsFit (q .addresses) (r .blocks)
-        go [] l = l .todo
-        go (x ∷ more) l =
-            let p = address-step s from (length more) x more (drop (addressesEnd s) s) (l .addresses) (omega (arith, suc-mul (length more) 6)) in
-            let z : _≡_ {A = ℕ} 0 1 = cc in
-            absurd (omega arith)
+    elements-here : x .elements ≡ getD s (from + 1) 0
+    elements-here = let z = same in let a : x ≡ here = cc in ap (λ (a : Address). a .elements) a ∙ byte-number s bytes-s (from + 1) (omega (arith, address-room))
 
-    -- no block is left
-    pub no-block : Counting s t q r from at 0 → true ≡ countsFit (q .addresses) (r .blocks)
-    no-block c =
-        let e = c .left .blocks in
-        let empty : [] ≡ c .bs = cc in
-        sym (counts-none (c .them)) ∙ (ap (countsFit (c .them)) empty ∙ c .left .todo)
+  -- the block that is read here: its format, its count and all of its bytes
+  module _ (b : Block) (u : List ℕ) (e : block rule .read (drop at t) ≡ got b u) where
+    block-room : at + (2 + valuesSize (b .format) (length (b .values))) ≤ length t
+    block-room =
+        let laid = block-sound rule .only (drop at t) b u e .1 ∙ ap (λ (l : List ℕ). l ++ u) (block-bytes rule b) in
+        omega (arith, ap length laid, length-append (blockBytes b) u, block-written (b .format) (length (b .values)) (b .values) refl, length-drop at t)
 
-    -- the address that stands here, and the block with its format and its count
-    module _ (a : Address) (next f n : ℕ) (es : stepAt s from ≡ Next a next) (ef : f ≡ numberAt 1 t at) (en : n ≡ numberAt 1 t (at + 1)) where
-      abbrev Turned : ℕ → Type 0
-      Turned more =
-          (countFits (a .elements) f n ≡ false → false ≡ countsFit (q .addresses) (r .blocks))
-          × (countFits (a .elements) f n ≡ true → Counting s t q r next (at + (2 + valuesSize f n)) more)
+    format-is : getD t at 0 ≡ b .format
+    format-is = sym (byte-number t bytes-t at (omega (arith, block-room))) ∙ format-here rule t at b u e
 
-      turned : (m : ℕ) → Counting s t q r from at (suc m) → Turned m
-      unfolding countsFit
-      turned m c = go (c .them) (c .bs) (c .left)
-        where
-          go : (them : List Address) (bs : List Block) → Left s t q r from at (suc m) them bs → Turned m
-          go [] bs l =
-              let end = address-end s from (omega (arith, l .ends)) in
-              let z : _≡_ {A = ℕ} 0 1 = cc in
-              absurd (omega arith)
-          go (x ∷ more) [] l =
-              let none = times-sound (block rule) (block-sound rule) (suc m) .only (drop at t) [] [] (l .blocks) .0 .0 in
-              absurd (omega arith)
-          go (x ∷ more) (b ∷ bs) l =
-              let p = address-step s from (length more) x more (drop (addressesEnd s) s) (l .addresses) (omega (arith, suc-mul (length more) 6)) in
-              let same : x ≡ a = cc in
-              let place : from + 6 ≡ next = cc in
-              let first = first-read (block rule .read) m (drop at t) b bs [] (l .blocks) in
-              let format : f ≡ b .format = ef ∙ format-here rule t at b (first .0) (first .1) in
-              let count : n ≡ length (b .values) = en ∙ count-here rule t at b (first .0) (first .1) in
-              let after = after-block rule t at b (first .0) (first .1) in
-              let test : countFits (x .elements) (b .format) (length (b .values)) ≡ countFits (a .elements) f n = rw (same, ← format, ← count) in (
-                λ unlike. sym (sym (l .todo) ∙ rw (test, unlike)),
+    count-is : getD t (at + 1) 0 ≡ length (b .values)
+    count-is = sym (byte-number t bytes-t (at + 1) (omega (arith, block-room))) ∙ count-here rule t at b u e
+
+    block-code : 0x40 ≤ b .format
+    block-code = answer-code (b .format) (r .identifier) (length (b .values)) (block-valid rule b .0 (block-sound rule .only (drop at t) b u e .0) .allowed)
+
+  turned : (m : ℕ) → Counting s t q r from at (suc m) → Turn s t q r from at m
+  unfolding countsFit
+  turned m c = go (c .them) (c .bs) (c .left)
+    where
+      go : (them : List Address) (bs : List Block) → Left s t q r from at (suc m) them bs → Turn s t q r from at m
+      go [] bs l =
+          let none = times-sound address address-sound (suc m) .only (drop from s) [] _ (l .addresses) .0 .0 in
+          absurd (omega arith)
+      go (x ∷ more) [] l =
+          let none = times-sound (block rule) (block-sound rule) (suc m) .only (drop at t) [] [] (l .blocks) .0 .0 in
+          absurd (omega arith)
+      go (x ∷ more) (b ∷ bs) l =
+          let asks = first-read (address .read) m (drop from s) x more _ (l .addresses) in
+          let gives = first-read (block rule .read) m (drop at t) b bs [] (l .blocks) in
+          let elements = elements-here x (asks .0) (asks .1) in
+          let format = format-is b (gives .0) (gives .1) in
+          let count = count-is b (gives .0) (gives .1) in
+          let after = after-block rule t at b (gives .0) (gives .1) in
+          let test : countFits (x .elements) (b .format) (length (b .values)) ≡ countFits (getD s (from + 1) 0) (getD t at 0) (getD t (at + 1) 0) = rw (elements, ← format, ← count) in
+          record {
+            stand =
+                record {
+                  address = address-room x (asks .0) (asks .1);
+                  format = rw format (block-code b (gives .0) (gives .1));
+                  block = rw (format, count) (block-room b (gives .0) (gives .1));
+                };
+            fails = λ unlike. sym (sym (l .todo) ∙ rw (test, unlike));
+            goes =
                 λ like.
-                    record {
-                      them = more;
-                      bs = bs;
-                      left =
-                          record {
-                            addresses = rw (← place) (p .1);
-                            ends = omega (arith, l .ends, suc-mul (length more) 6);
-                            blocks = rw (format, count, ← after) (first .2);
-                            todo = sym (rw (test, like)) ∙ l .todo;
-                          };
-                    },
-              )
+                record {
+                  them = more;
+                  bs = bs;
+                  left =
+                      record {
+                        addresses = rw (← address-rest x (asks .0) (asks .1)) (asks .2);
+                        blocks = rw (format, count, ← after) (gives .2);
+                        todo = sym (rw (test, like)) ∙ l .todo;
+                      };
+                };
+          }
 
-      -- the loop ends here, or goes on
-      pub turn-fails : (m : ℕ) → 0 < m → countFits (a .elements) f n ≡ false → Counting s t q r from at m → false ≡ countsFit (q .addresses) (r .blocks)
-      turn-fails zero h unlike c = absurd (omega arith)
-      turn-fails (suc m) h unlike c = turned m c .0 unlike
+  pub turn : (m : ℕ) → 0 < m → Counting s t q r from at m → Turn s t q r from at (m - 1)
+  turn zero h c = absurd (omega arith)
+  turn (suc m) h c = rw sub-one (turned m c)
 
-      pub turn : (m : ℕ) → 0 < m → countFits (a .elements) f n ≡ true → Counting s t q r from at m → Counting s t q r next (at + (2 + valuesSize f n)) (m - 1)
-      turn zero h like c = absurd (omega arith)
-      turn (suc m) h like c = rw sub-one (turned m c .1 like)
+-- of two readable blocks, something stands there
+pub stands : (s t : List ℕ) → BothRead s t → Bytes s → Bytes t → (from at n : ℕ) → AsRead s t (λ q r. Counting s t q r from at n) → 0 < n → Stand s t from at
+stands s t read bytes-s bytes-t from at n c h = once s t read (Stand s t from at) (λ q r es et. turn s t bytes-s bytes-t q r from at n h (c q r es et) .stand)

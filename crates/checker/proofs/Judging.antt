@@ -10,7 +10,14 @@ use Rattle.blocks.specs.Request.{Request, request}
 use Rattle.blocks.specs.Response.{Response, response}
 use Rattle.blocks.proofs.Sound.{request-sound, response-sound}
 use Rattle.checker.specs.Check.{compared, checkOf}
-use Rattle.checker.specs.Inner.{AsRead}
+use Rattle.checker.specs.Inner.{BothRead, AsRead}
+
+-- what follows from the request and the response that two readable blocks are read as
+pub once : (s t : List ℕ) → BothRead s t → (P : Type 0) → AsRead s t (λ q r. P) → P
+once s t read P f =
+    let a = readable-read blockLimit request request-sound s (read .0) in
+    let b = readable-read blockLimit response response-sound t (read .1) in
+    f (a .0) (b .0) (a .1) (b .1)
 
 module _ (s t : List ℕ) where
   pub no-request : readable blockLimit request s ≡ false → 1 ≡ checkOf s t
@@ -28,7 +35,4 @@ module _ (s t : List ℕ) where
       both-read q r a b = rw (es, et, a, b)
 
       pub as-read : (n : ℕ) → AsRead s t (λ q r. n ≡ compared q r) → n ≡ checkOf s t
-      as-read n f =
-          let a = readable-read blockLimit request request-sound s es in
-          let b = readable-read blockLimit response response-sound t et in
-          f (a .0) (b .0) (a .1) (b .1) ∙ both-read (a .0) (b .0) (a .1) (b .1)
+      as-read n f = once s t (es, et) (n ≡ checkOf s t) (λ q r a b. f q r a b ∙ both-read q r a b)

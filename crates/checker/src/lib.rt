@@ -1,18 +1,16 @@
 // Whether a response answers a request (document 02, R-4), on two blocks of any bytes and any length.
 ghost use mathlib.Core.Path.{_≡_};
+ghost use Prim.Native.Nat.{_+_, _≤_};
+ghost use Rattle.blocks.specs.Block.{valuesSize};
 ghost use Rattle.checker.specs.Check.{matching, countFits, countsFit, compared, checkOf};
-ghost use Rattle.checker.specs.Inner.{AsRead};
-use blocks::reader::Step;
+ghost use Rattle.checker.specs.Inner.{BothRead, BothCount, AsRead};
 
-// Whether a response with the identifier `id` may answer a request with the identifier `asked`.
+// Whether a response with the identifier `id` may answer a request with the identifier `asked`: bit 7 says that something failed.
 fn is_matching(asked: u8, id: u8) -> bool
+    requires { ⌜ (1 ≤ asked) × (asked ≤ 2) ⌝ }
     ensures { λ r. ⌜ r ≡ matching asked id ⌝ }
 {
-    if asked == 1 {
-        codes::either(id == 1, id == 0x81)
-    } else {
-        codes::either(id == 2, id == 0x82)
-    }
+    id % 128 == asked
 }
 
 // Whether a block of n values of the format f has as many as were asked, if it is one of values.
@@ -25,31 +23,31 @@ fn count_fits(elements: u8, f: u8, n: u8) -> bool
     if elements == 0 { n == 1 } else { n == elements }
 }
 
-// Whether each block of a readable response has as many values as its address in a readable request asks.
-fn counts_fit(request: &[u8], response: &[u8]) -> bool
+// Bytes of a block of a response with n values of the format f.
+fn answer_size(f: u8, n: u8) -> usize
+    requires { ⌜ 0x40 ≤ f ⌝ }
+    ensures { λ r. ⌜ r ≡ 2 + valuesSize f n ⌝ }
+{
+    let bare = codes::wide(n) * blocks::code_size(f);
+    2 + bare + bare % 2
+}
+
+// Whether each block of a readable response has as many values as its address in a readable request asks. Both have `count` of them.
+fn counts_fit(request: &[u8], response: &[u8], count: u8) -> bool
+    requires { ⌜ BothRead (now request) (now response) × BothCount (now request) (now response) count ⌝ }
     ensures { λ b. ⌜ AsRead (now (request .entry)) (now (response .entry)) (λ q r. b ≡ countsFit (q .addresses) (r .blocks)) ⌝ }
 {
-    let h = blocks::header_of(response);
-    // 02 ends with its header.
-    if h.identifier == 2 {
-        return true;
-    }
     let mut from = blocks::reader::FIRST;
     let mut at = blocks::reader::FIRST;
-    let mut left = h.count;
+    let mut left = count;
     while 0 < left {
-        let s = blocks::reader::address_at(request, from);
-        // Blocks without an address answer nothing; N was compared before.
-        let Step::Next(a, next) = s else {
-            return true;
-        };
-        let f = codes::byte_at(response, at);
-        let n = codes::byte_at(response, at + 1);
-        if !count_fits(a.elements, f, n) {
+        let f = response[at];
+        let n = response[at + 1];
+        if !count_fits(request[from + 1], f, n) {
             return false;
         }
-        from = next;
-        at += blocks::writer::block_size(f, n);
+        from += 6;
+        at += answer_size(f, n);
         left -= 1;
     }
     true
@@ -57,23 +55,30 @@ fn counts_fit(request: &[u8], response: &[u8]) -> bool
 
 // Checks 3 to 7, of a readable request and a readable response.
 fn compare(request: &[u8], response: &[u8]) -> u8
+    requires { ⌜ BothRead (now request) (now response) ⌝ }
     ensures { λ n. ⌜ AsRead (now (request .entry)) (now (response .entry)) (λ q r. n ≡ compared q r) ⌝ }
 {
-    let q = blocks::header_of(request);
-    let r = blocks::header_of(response);
-    if r.reference != q.reference {
+    if response[0] != request[0] {
         return 3;
     }
-    if r.axis != q.axis {
+    if response[2] != request[2] {
         return 4;
     }
-    if r.count != q.count {
+    if response[3] != request[3] {
         return 5;
     }
-    if !is_matching(q.identifier, r.identifier) {
+    if !is_matching(request[1], response[1]) {
         return 6;
     }
-    if counts_fit(request, response) { 0 } else { 7 }
+    // 02 ends with its header.
+    if response[1] == 2 {
+        return 0;
+    }
+    if counts_fit(request, response, request[3]) {
+        0
+    } else {
+        7
+    }
 }
 
 // The number of the first check that failed, in the order of R-4; 0 for a yes.

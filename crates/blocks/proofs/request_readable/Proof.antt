@@ -75,8 +75,8 @@ returns-6 c =
 request-blocks-requires : tie.Need-request-blocks-requires
 request-blocks-requires c κs = search needs
 
-blocks-end-requires : tie.Need-blocks-end-requires
-blocks-end-requires c κs = search needs
+change-end-requires : tie.Need-change-end-requires
+change-end-requires c κs = search needs
 
 whole-requires : tie.Need-whole-requires
 whole-requires c κs = search needs
@@ -85,7 +85,7 @@ returns-7 : tie.Need-returns-7
 returns-7 c =
     let s = now (c .before .before .before .before .before .before .before .before .before .before .before .before .before .before .before .before .before .args .block) in
     let y : Bytes s = λ i. omega (arith, c .before .before .before .before .before .before .before .before .before .before .before .before .before .before .before .before .shared-slice-known .given i) in
-    let e = c .before .blocks-end in
+    let e = c .before .change-end in
     c .whole .ensures
     ∙ request-end s y (omega arith) (sym (c .before .before .before .before .before .before .before .before .before .before .between .ensures) ∙ not-false (c .before .before .before .before .before .before .before .before .before .before .between .result) (c .before .before .before .before .before .before .before .before .before .if3 .left)) (sym (c .before .before .before .before .before .before .before .before .between2 .ensures) ∙ not-false (c .before .before .before .before .before .before .before .before .between2 .result) (c .before .before .before .before .before .before .before .if4 .left)) (sym (c .before .before .before .before .before .before .between3 .ensures) ∙ not-false (c .before .before .before .before .before .before .between3 .result) (c .before .before .before .before .before .if5 .left)) (omega arith) (omega (arith, c .before .before .before .before .wide .ensures)) (standing s (e .result))
     (e .ensures .stands ∙ ap₂ (λ (m k : ℕ). mapGot hasError (readTimes (block changeBlockFits .read) m (drop (4 + k * 6) s))) (c .before .before .request-blocks .ensures) (c .before .before .before .before .wide .ensures))
@@ -110,6 +110,6 @@ request-readable-spec =
     add-from
     returns-6
     request-blocks-requires
-    blocks-end-requires
+    change-end-requires
     whole-requires
     returns-7)

@@ -60,8 +60,8 @@ returns-5 c =
 response-blocks-requires : tie.Need-response-blocks-requires
 response-blocks-requires c κs = search needs
 
-blocks-end-requires : tie.Need-blocks-end-requires
-blocks-end-requires c κs = search needs
+answer-end-requires : tie.Need-answer-end-requires
+answer-end-requires c κs = search needs
 
 whole-requires : tie.Need-whole-requires
 whole-requires c κs = search needs
@@ -70,7 +70,7 @@ returns-6 : tie.Need-returns-6
 returns-6 c =
     let s = now (c .before .before .before .before .before .before .before .before .before .before .before .before .before .before .before .args .block) in
     let y : Bytes s = λ i. omega (arith, c .before .before .before .before .before .before .before .before .before .before .before .before .before .before .shared-slice-known .given i) in
-    let e = c .before .blocks-end in
+    let e = c .before .answer-end in
     c .whole .ensures
     ∙ response-end s y (omega arith) (sym (c .before .before .before .before .before .before .before .before .between .ensures) ∙ not-false (c .before .before .before .before .before .before .before .before .between .result) (c .before .before .before .before .before .before .before .if3 .left)) (sym (c .before .before .before .before .before .before .is-answer .ensures) ∙ not-false (c .before .before .before .before .before .before .is-answer .result) (c .before .before .before .before .before .if4 .left)) (sym (c .before .before .before .before .between2 .ensures) ∙ not-false (c .before .before .before .before .between2 .result) (c .before .before .before .if5 .left)) (omega arith) (standing s (e .result))
     (e .ensures .stands ∙ ap (λ (m : ℕ). mapGot hasError (readTimes (block (responseBlockFits (getD s 1 0)) .read) m (drop 4 s))) (c .before .before .response-blocks .ensures))
@@ -91,6 +91,6 @@ response-readable-spec =
     between-requires-2
     returns-5
     response-blocks-requires
-    blocks-end-requires
+    answer-end-requires
     whole-requires
     returns-6)

@@ -22,35 +22,29 @@ returns c =
     let a = c .before .before .before .before .args in
     value-nowhere (now (a .s)) (a .at) (a .j) (sym (c .before .before .block-at .ensures) ∙ c .enum-told .given .1)
 
-value-size-requires : tie.Need-value-size-requires
-value-size-requires c κs = search needs
-
 wide-requires : tie.Need-wide-requires
 wide-requires c κs = search needs
 
 add-number-at : tie.Need-add-number-at
 add-number-at c =
-    let a = c .before .before .before .before .before .before .before .before .args in
-    let v = c .before .before .before .before .b .given in
-    let st = block-stands changeBlockFits (now (a .s)) (a .at) (v .0 .0) (sym (c .before .before .before .before .before .before .block-at .ensures) ∙ v .1) in
-    let z = c .before .before .value-size in
-    omega (arith, value-room (now (a .s)) (a .at) (a .j) (v .0 .0) st (z .result) (z .ensures .0) (omega arith))
+    let a = c .before .before .before .before .before .before .before .args in
+    let v = c .before .before .before .b .given in
+    let st = block-stands changeBlockFits (now (a .s)) (a .at) (v .0 .0) (sym (c .before .before .before .before .before .block-at .ensures) ∙ v .1) in
+    omega (arith, value-room (now (a .s)) (a .at) (a .j) (v .0 .0) st (omega arith))
 
 mul-number-at : tie.Need-mul-number-at
 mul-number-at c =
     let a = c .before .before .before .before .before .before .before .before .args in
     let v = c .before .before .before .before .b .given in
     let st = block-stands changeBlockFits (now (a .s)) (a .at) (v .0 .0) (sym (c .before .before .before .before .before .before .block-at .ensures) ∙ v .1) in
-    let z = c .before .before .value-size in
-    omega (arith, value-room (now (a .s)) (a .at) (a .j) (v .0 .0) st (z .result) (z .ensures .0) (omega arith))
+    omega (arith, value-room (now (a .s)) (a .at) (a .j) (v .0 .0) st (omega arith))
 
 add-number-at-2 : tie.Need-add-number-at-2
 add-number-at-2 c =
     let a = c .before .before .before .before .before .before .before .before .args in
     let v = c .before .before .before .before .b .given in
     let st = block-stands changeBlockFits (now (a .s)) (a .at) (v .0 .0) (sym (c .before .before .before .before .before .before .block-at .ensures) ∙ v .1) in
-    let z = c .before .before .value-size in
-    omega (arith, value-room (now (a .s)) (a .at) (a .j) (v .0 .0) st (z .result) (z .ensures .0) (omega arith))
+    omega (arith, value-room (now (a .s)) (a .at) (a .j) (v .0 .0) st (omega arith))
 
 number-at-requires : tie.Need-number-at-requires
 number-at-requires c κs = search needs
@@ -60,14 +54,13 @@ returns-2 c =
     let a = c .before .before .before .before .before .before .before .before .before .args in
     let v = c .before .before .before .before .before .b .given in
     let st = block-stands changeBlockFits (now (a .s)) (a .at) (v .0 .0) (sym (c .before .before .before .before .before .before .before .block-at .ensures) ∙ v .1) in
-    let z = c .before .before .before .value-size in
-    c .number-at .ensures ∙ value-here (now (a .s)) (a .at) (a .j) (v .0 .0) st (z .result) (z .ensures .0) (omega arith)
+    c .number-at .ensures ∙ value-here (now (a .s)) (a .at) (a .j) (v .0 .0) st (omega arith)
 
 returns-3 : tie.Need-returns-3
 returns-3 c =
-    let a = c .before .before .before .before .before .before .before .before .args in
-    let v = c .before .before .before .before .b .given in
-    let st = block-stands changeBlockFits (now (a .s)) (a .at) (v .0 .0) (sym (c .before .before .before .before .before .before .block-at .ensures) ∙ v .1) in
+    let a = c .before .before .before .before .before .before .before .args in
+    let v = c .before .before .before .b .given in
+    let st = block-stands changeBlockFits (now (a .s)) (a .at) (v .0 .0) (sym (c .before .before .before .before .before .block-at .ensures) ∙ v .1) in
     value-past (now (a .s)) (a .at) (a .j) (v .0 .0) st (omega arith)
 
 pub value-at-spec : {M : Type 1} → statement M
@@ -78,7 +71,6 @@ value-at-spec =
     enum-known-b
     enum-told
     returns
-    value-size-requires
     wide-requires
     add-number-at
     mul-number-at

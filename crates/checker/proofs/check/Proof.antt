@@ -24,7 +24,10 @@ returns-2 c =
     no-response _ _ (sym (q .ensures) ∙ not-false (q .result) (c .before .before .if1 .left)) (sym (r .ensures) ∙ not-true (r .result) (c .if2 .taken))
 
 compare-requires : tie.Need-compare-requires
-compare-requires c κs = search needs
+compare-requires c κs =
+    let q = c .before .before .before .request-readable in
+    let r = c .before .response-readable in
+    (sym (q .ensures) ∙ not-false (q .result) (c .before .before .if1 .left), sym (r .ensures) ∙ not-false (r .result) (c .if2 .left))
 
 returns-3 : tie.Need-returns-3
 returns-3 c =

@@ -1,83 +1,72 @@
--- The loop's invariant: what is left to be held against the addresses is what was to be held at first.
-use mathlib.Core.Path.{_≡_, sym, _∙_, ap, subst}
-use Prim.Native.Nat.{ℕ, _+_, _-_, _*_, _≤_}
+-- The loop's invariant: what is left to be held against the addresses is what was to be held at first, and stands in both blocks.
+use mathlib.Core.Path.{_≡_, sym, _∙_, subst}
+use Prim.Native.Nat.{ℕ, _+_, _-_, _<_}
 use native.Mathlib.Omega.{arith}
 use denote.Ref.{now}
 use borrow.Author.Tests.{not-true, not-false}
-use Rattle.blocks.specs.declared.Header.{Header}
-use Rattle.blocks.proofs.Blocks.{values-few}
+use Rattle.codes.proofs.Fixed.{Bytes}
 use Rattle.checker.specs.Inner.{AsRead}
-use Rattle.checker.proofs.Counting.{Counting, unanswered, begins, no-address, no-block, turn-fails, turn}
+use Rattle.checker.proofs.Counting.{Counting, begins, no-block, Stand, turn, stands}
 use borrow.Author.Needs.{needs}
 use Rattle.checker.proofs.counts_fit.Statement.{statement}
 use Rattle.checker.proofs.counts_fit.Tie as tie
 
--- no block takes more than 1022 bytes, and there are at most 255 of them
 abbrev Inv-loop : tie.InvT-loop
-Inv-loop request response from₀ at₀ left₀ from at left =
-    (at + 1022 * left ≤ 4 + 1022 * 255) × AsRead request response (λ q r. Counting request response q r from at left)
+Inv-loop request response count from₀ at₀ left₀ from at left =
+    AsRead request response (λ q r. Counting request response q r from at left) × (0 < left → Stand request response from at)
 
 abbrev μ-loop : tie.MeasureT-loop
-μ-loop request response from₀ at₀ left₀ from at left = left
-
-header-of-requires : tie.Need-header-of-requires Inv-loop μ-loop
-header-of-requires c κs = search needs
-
-returns : tie.Need-returns Inv-loop μ-loop
-returns c q r es et =
-    unanswered _ _ q r es et (ap (λ (h : Header). h .identifier) (sym (c .before .before .header-of .ensures)) ∙ c .if1 .taken)
+μ-loop request response count from₀ at₀ left₀ from at left = left
 
 loop-holds : tie.Need-loop-holds Inv-loop μ-loop
-loop-holds c = (
-  omega arith,
-  λ q r es et.
-      let a = c .before .before .before .before .before .args in
-      let h = c .before .before .header-of .ensures in
-      subst (λ (n : ℕ). Counting (now (a .request)) (now (a .response)) q r 4 4 n) (ap (λ (x : Header). x .count) (sym h))
-      (begins (now (a .request)) (now (a .response)) q r es et (λ two. c .if1 .left (ap (λ (x : Header). x .identifier) h ∙ two))),
-)
+loop-holds c =
+    let a = c .before .before .args in
+    let s = now (a .request) in
+    let t = now (a .response) in
+    let pre = c .before .before .pre in
+    let bs : Bytes s = λ i. omega (arith, c .before .shared-slice-known .given i) in
+    let bt : Bytes t = λ i. omega (arith, c .shared-slice-known2 .given i) in
+    let first : AsRead s t (λ q r. Counting s t q r 4 4 (a .count)) = λ q r es et. begins s t q r es et (a .count) (pre .1) in
+    (first, stands s t (pre .0) bs bt 4 4 (a .count) first)
 
-address-at-requires : tie.Need-address-at-requires Inv-loop μ-loop
-address-at-requires c κs = search needs
+shared-slice-read-f : tie.Need-shared-slice-read-f Inv-loop μ-loop
+shared-slice-read-f c = omega (arith, c .before .before .loop .inv .1 (c .before .loop-test .taken))
 
-enum-known-s : tie.Need-enum-known-s Inv-loop μ-loop
-enum-known-s c = search needs
+add-n : tie.Need-add-n Inv-loop μ-loop
+add-n c = omega (arith, c .before .before .loop .inv .1 (c .before .loop-test .taken))
 
-enum-told : tie.Need-enum-told Inv-loop μ-loop
-enum-told c = search needs
+shared-slice-read-n : tie.Need-shared-slice-read-n Inv-loop μ-loop
+shared-slice-read-n c = omega (arith, c .before .before .before .loop .inv .1 (c .before .before .loop-test .taken))
 
-returns-2 : tie.Need-returns-2 Inv-loop μ-loop
-returns-2 c q r es et =
-    let l = c .before .before .before .before .loop in
-    no-address _ _ q r (l .from) (l .at) (l .left) (sym (c .before .before .address-at .ensures) ∙ c .enum-told .given .1) (l .inv .1 q r es et)
+add-count-fits : tie.Need-add-count-fits Inv-loop μ-loop
+add-count-fits c = omega (arith, c .before .before .before .loop .inv .1 (c .before .before .loop-test .taken))
 
-byte-at-requires : tie.Need-byte-at-requires Inv-loop μ-loop
-byte-at-requires c κs = search needs
-
-add-byte-at : tie.Need-add-byte-at Inv-loop μ-loop
-add-byte-at c = search needs
-
-byte-at-requires-2 : tie.Need-byte-at-requires-2 Inv-loop μ-loop
-byte-at-requires-2 c κs = search needs
+shared-slice-read-count-fits : tie.Need-shared-slice-read-count-fits Inv-loop μ-loop
+shared-slice-read-count-fits c = omega (arith, c .before .before .before .before .loop .inv .1 (c .before .before .before .loop-test .taken))
 
 count-fits-requires : tie.Need-count-fits-requires Inv-loop μ-loop
 count-fits-requires c κs = search needs
 
-returns-3 : tie.Need-returns-3 Inv-loop μ-loop
-returns-3 c q r es et =
-    let l = c .before .before .before .before .before .before .before .before .before .loop in
-    let v = c .before .before .before .before .before .s .given in
+returns : tie.Need-returns Inv-loop μ-loop
+returns c q r es et =
+    let o = c .before .before .before .before .before .before .before in
+    let a = o .before .before .args in
+    let s = now (a .request) in
+    let t = now (a .response) in
+    let l = c .before .before .before .before .before .before .loop in
     let k = c .before .count-fits in
-    turn-fails _ _ q r (l .from) (l .at) (v .0 .0) (v .0 .1 .0) _ _ (sym (c .before .before .before .before .before .before .before .address-at .ensures) ∙ v .1) (c .before .before .before .byte-at .ensures) (c .before .before .byte-at2 .ensures)
-    (l .left) (c .before .before .before .before .before .before .before .before .loop-test .taken) (sym (k .ensures) ∙ not-true (k .result) (c .if2 .taken)) (l .inv .1 q r es et)
+    let bs : Bytes s = λ i. omega (arith, o .before .shared-slice-known .given i) in
+    let bt : Bytes t = λ i. omega (arith, o .shared-slice-known2 .given i) in
+    turn s t bs bt q r (l .from) (l .at) (l .left) (c .before .before .before .before .before .loop-test .taken) (l .inv .0 q r es et) .fails (sym (k .ensures) ∙ not-true (k .result) (c .if1 .taken))
 
-block-size-requires : tie.Need-block-size-requires Inv-loop μ-loop
-block-size-requires c κs = search needs
+add-from : tie.Need-add-from Inv-loop μ-loop
+add-from c = omega (arith, c .before .before .before .before .before .before .loop .inv .1 (c .before .before .before .before .before .loop-test .taken))
+
+answer-size-requires : tie.Need-answer-size-requires Inv-loop μ-loop
+answer-size-requires c κs = c .before .before .before .before .before .before .loop .inv .1 (c .before .before .before .before .before .loop-test .taken) .format
 
 add-at : tie.Need-add-at Inv-loop μ-loop
-add-at c =
-    let few = values-few (c .before .before .before .before .byte-at .result) (c .before .before .before .byte-at2 .result) (search needs) in
-    record { fits = omega (arith, c .block-size .ensures) }
+add-at c = omega (arith, c .answer-size .ensures, c .before .before .before .before .before .before .before .loop .inv .1 (c .before .before .before .before .before .before .loop-test .taken))
 
 sub-left : tie.Need-sub-left Inv-loop μ-loop
 sub-left c = search needs
@@ -87,26 +76,30 @@ loop-less c = search needs
 
 loop-again : tie.Need-loop-again Inv-loop μ-loop
 loop-again c =
-    let a = c .before .before .before .before .before .before .before .before .before .before .before .before .before .before .before .before .args in
-    let l = c .before .before .before .before .before .before .before .before .before .before .loop in
-    let v = c .before .before .before .before .before .before .s .given in
-    let f = c .before .before .before .before .byte-at in
-    let n = c .before .before .before .byte-at2 in
+    let o = c .before .before .before .before .before .before .before .before in
+    let a = o .before .before .args in
+    let s = now (a .request) in
+    let t = now (a .response) in
+    let pre = o .before .before .pre in
+    let l = c .before .before .before .before .before .before .before .loop in
     let k = c .before .before .count-fits in
-    let few = values-few (f .result) (n .result) (search needs) in (
-      omega (arith, c .block-size .ensures),
-      λ q r es et.
-          subst (λ (x : ℕ). Counting (now (a .request)) (now (a .response)) q r (v .0 .1 .0) (l .at + x) (l .left - 1)) (sym (c .block-size .ensures))
-          (turn (now (a .request)) (now (a .response)) q r (l .from) (l .at) (v .0 .0) (v .0 .1 .0) (f .result) (n .result) (sym (c .before .before .before .before .before .before .before .before .address-at .ensures) ∙ v .1) (f .ensures) (n .ensures)
-          (l .left) (c .before .before .before .before .before .before .before .before .before .loop-test .taken) (sym (k .ensures) ∙ not-false (k .result) (c .before .if2 .left)) (l .inv .1 q r es et)),
-    )
+    let z = c .answer-size in
+    let bs : Bytes s = λ i. omega (arith, o .before .shared-slice-known .given i) in
+    let bt : Bytes t = λ i. omega (arith, o .shared-slice-known2 .given i) in
+    let next : AsRead s t (λ q r. Counting s t q r (l .from + 6) (l .at + z .result) (l .left - 1)) =
+    λ q r es et.
+    subst (λ (x : ℕ). Counting s t q r (l .from + 6) (l .at + x) (l .left - 1)) (sym (z .ensures))
+    (turn s t bs bt q r (l .from) (l .at) (l .left) (c .before .before .before .before .before .before .loop-test .taken) (l .inv .0 q r es et) .goes (sym (k .ensures) ∙ not-false (k .result) (c .before .if1 .left))) in
+    (next, stands s t (pre .0) bs bt (l .from + 6) (l .at + z .result) (l .left - 1) next)
 
-returns-4 : tie.Need-returns-4 Inv-loop μ-loop
-returns-4 c q r es et =
-    let a = c .before .before .before .before .before .before .before .args in
+returns-2 : tie.Need-returns-2 Inv-loop μ-loop
+returns-2 c q r es et =
+    let a = c .before .before .before .before .args in
+    let s = now (a .request) in
+    let t = now (a .response) in
     let l = c .before .loop in
     let none : l .left ≡ 0 = omega arith in
-    no-block (now (a .request)) (now (a .response)) q r (l .from) (l .at) (subst (λ (n : ℕ). Counting (now (a .request)) (now (a .response)) q r (l .from) (l .at) n) none (l .inv .1 q r es et))
+    no-block s t q r (l .from) (l .at) (subst (λ (n : ℕ). Counting s t q r (l .from) (l .at) n) none (l .inv .0 q r es et))
 
 pub counts-fit-spec : {M : Type 1} → statement M
 counts-fit-spec =
@@ -114,21 +107,18 @@ counts-fit-spec =
     (tie.spec
     Inv-loop
     μ-loop
-    header-of-requires
-    returns
     loop-holds
-    address-at-requires
-    enum-known-s
-    enum-told
-    returns-2
-    byte-at-requires
-    add-byte-at
-    byte-at-requires-2
+    shared-slice-read-f
+    add-n
+    shared-slice-read-n
+    add-count-fits
+    shared-slice-read-count-fits
     count-fits-requires
-    returns-3
-    block-size-requires
+    returns
+    add-from
+    answer-size-requires
     add-at
     sub-left
     loop-less
     loop-again
-    returns-4)
+    returns-2)

@@ -1,26 +1,42 @@
-use mathlib.Core.Logic.{⊎-elim, inl, inr}
+-- Words first; then the size codes, and what is none.
 use lib.Dec.{lit≤}
-use mathlib.Core.Path.{refl}
+use mathlib.Core.Path.{refl, sym, _∙_}
+use native.Mathlib.Omega.{arith}
 use Rattle.blocks.specs.Block.{formatSize}
-use borrow.Author.Tests.{ne-eqb}
+use Rattle.blocks.proofs.Formats.{value-format, code-value, code-bounds}
+use borrow.Author.Needs.{needs}
 use Rattle.blocks.proofs.layout.format_size.Statement.{statement}
 use Rattle.blocks.proofs.layout.format_size.Tie as tie
 
 returns : tie.Need-returns
 unfolding formatSize
-returns c = ⊎-elim (λ e. rw e (refl, lit≤ tt)) (⊎-elim (λ e. rw e (refl, lit≤ tt)) (λ e. rw e (refl, lit≤ tt))) (c .match .keys1)
+returns c = rw (c .if1 .taken) (refl, lit≤ tt)
+
+between-requires : tie.Need-between-requires
+between-requires c κs = search needs
+
+code-size-requires : tie.Need-code-size-requires
+code-size-requires c κs = search needs
+
+type-size-requires : tie.Need-type-size-requires
+type-size-requires c κs = sym (c .before .between .ensures) ∙ c .if2 .left
 
 returns-2 : tie.Need-returns-2
-unfolding formatSize
-returns-2 c = ⊎-elim (λ e. rw e (refl, lit≤ tt)) (⊎-elim (λ e. rw e (refl, lit≤ tt)) (λ e. rw e (refl, lit≤ tt))) (c .match .keys2)
+returns-2 c =
+    let f = c .before .before .before .before .args .f in
+    let o = code-bounds f (sym (c .before .before .between .ensures) ∙ c .before .if2 .taken) in
+    (c .code-size .ensures .0 ∙ code-value f (omega (arith, o .0)) ∙ value-format f (λ e. omega (arith, o .1, e)), c .code-size .ensures .1)
 
 returns-3 : tie.Need-returns-3
-unfolding formatSize
-returns-3 c = ⊎-elim (λ e. rw e (refl, lit≤ tt)) (⊎-elim (λ e. rw e (refl, lit≤ tt)) (λ e. rw e (refl, lit≤ tt))) (c .match .keys3)
-
-returns-4 : tie.Need-returns-4
-unfolding formatSize
-returns-4 c = simp (ne-eqb _ 2 (λ e. c .match .rest .0 .0 .1 (inl e)), ne-eqb _ 5 (λ e. c .match .rest .0 .0 .1 (inr (inl e))), ne-eqb _ 65 (λ e. c .match .rest .0 .0 .1 (inr (inr e))), ne-eqb _ 3 (λ e. c .match .rest .0 .1 (inl e)), ne-eqb _ 6 (λ e. c .match .rest .0 .1 (inr (inl e))), ne-eqb _ 66 (λ e. c .match .rest .0 .1 (inr (inr e))), ne-eqb _ 4 (λ e. c .match .rest .1 (inl e)), ne-eqb _ 7 (λ e. c .match .rest .1 (inr (inl e))), ne-eqb _ 67 (λ e. c .match .rest .1 (inr (inr e)))) (refl, lit≤ tt)
+returns-3 c = search needs
 
 pub format-size-spec : {M : Type 1} → statement M
-format-size-spec = tie.close (tie.spec returns returns-2 returns-3 returns-4)
+format-size-spec =
+    tie.close
+    (tie.spec
+    returns
+    between-requires
+    code-size-requires
+    type-size-requires
+    returns-2
+    returns-3)

@@ -1,18 +1,17 @@
-use borrow.Author.Tests.{eq-eqb, ne-eqb}
+use mathlib.Core.Path.{sym, _∙_}
+use borrow.Author.Needs.{needs}
+use Rattle.blocks.proofs.Formats.{codes-are}
 use Rattle.blocks.proofs.layout.value_fits.Statement.{statement}
 use Rattle.blocks.proofs.layout.value_fits.Tie as tie
 
+between-requires : tie.Need-between-requires
+between-requires c κs = search needs
+
 returns : tie.Need-returns
-returns c = simp (eq-eqb _ _ (c .if1 .taken))
+returns c = rw (codes-are (c .before .before .args .f), ← c .before .between .ensures, c .if1 .taken)
 
 returns-2 : tie.Need-returns-2
-returns-2 c = simp (ne-eqb _ _ (c .before .if1 .left), eq-eqb _ _ (c .if2 .taken))
-
-returns-3 : tie.Need-returns-3
-returns-3 c = simp (ne-eqb _ _ (c .before .before .if1 .left), ne-eqb _ _ (c .before .if2 .left), eq-eqb _ _ (c .if3 .taken))
-
-returns-4 : tie.Need-returns-4
-returns-4 c = simp (ne-eqb _ _ (c .before .before .if1 .left), ne-eqb _ _ (c .before .if2 .left), ne-eqb _ _ (c .if3 .left))
+returns-2 c = rw (codes-are (c .before .before .args .f), ← c .before .between .ensures, c .if1 .left)
 
 pub value-fits-spec : {M : Type 1} → statement M
-value-fits-spec = tie.close (tie.spec returns returns-2 returns-3 returns-4)
+value-fits-spec = tie.close (tie.spec between-requires returns returns-2)
