@@ -37,7 +37,7 @@ use Rattle.access.proofs.Checks.{pick, Named, CheckedFits, checked-fits
 use Rattle.access.specs.Laws.{Storable, SameHeader, AnswersHeader, AnswerFits, AnswerShort, AnswerReadable, AnswerAxis, blocksOf, OneEach, AnswersBlocks, AnswersIdentifier, FailureAnswered}
 
 -- a format that a parameter's values may have is as wide as its elements
-size-same : (k : Kind) → valueSize (sizeCode k) ≡ elementSize k
+pub size-same : (k : Kind) → valueSize (sizeCode k) ≡ elementSize k
 unfolding valueSize formatSize
 size-same U8 = refl
 size-same U16 = refl

@@ -1,10 +1,11 @@
 -- The loop over the addresses and blocks of a change: what is left to do from where it stands is what was to be done at first.
 use mathlib.Core.Path.{_≡_, refl, sym, _∙_, ap}
-use mathlib.Core.Bool.{Bool, false, _||_}
+use mathlib.Core.Bool.{Bool, true, false, cond, _||_}
 use mathlib.Core.List.{List, [], _∷_}
 use Prim.Native.Nat.{ℕ, zero, suc, _+_, _-_, _*_, _≤_, _<_}
 use native.Mathlib.Omega.{arith}
 use native.Mathlib.Numerals.{sub-one}
+use lib.Dec.{leb}
 use lib.ListN.{length, drop}
 use Rattle.codes.specs.Code.{Got, got, bad, andThen, readTimes}
 use Rattle.codes.specs.Number.{valueOr}
@@ -12,11 +13,13 @@ use Rattle.codes.proofs.Put.{put-length}
 use Rattle.drive.specs.Faults.{bufferCodes}
 use Rattle.blocks.specs.Block.{Block, blockLimit, changeBlockFits, block}
 use Rattle.blocks.specs.Page.{blockBytes}
-use Rattle.blocks.specs.Place.{stepAt, blockAt, walk}
+use Rattle.blocks.specs.Place.{addressesEnd, stepOf, stepAt, blockAt, walk}
+use Rattle.blocks.specs.Request.{address}
 use Rattle.blocks.specs.declared.Head.{Head}
+use Rattle.blocks.specs.declared.BlockAt.{BlockAt}
 use Rattle.blocks.specs.declared.BlockAt.the-variants.{Stands, Nothing}
 use Rattle.blocks.specs.declared.reader.Address.{Address}
-use Rattle.blocks.specs.declared.reader.Step.the-variants.{Next}
+use Rattle.blocks.specs.declared.reader.Step.the-variants.{Next, End}
 use Rattle.blocks.proofs.Blocks.{block-stands, block-falls}
 use Rattle.access.specs.declared.reply.Written.{Written}
 use Rattle.access.specs.declared.change.Done.{Done}
@@ -29,11 +32,18 @@ use Rattle.access.proofs.Answering.{answer-short, answers-short}
 use Rattle.access.proofs.Failing.{block-in}
 
 -- blocks are left, so one stands here
-pub blocks-end : (s : List ℕ) (from left : ℕ) → 0 < left → length (blocksIn left s from) ≡ left → blockAt s from ≡ Nothing → ⊥
+blocks-end : (s : List ℕ) (from left : ℕ) → 0 < left → length (blocksIn left s from) ≡ left → blockAt s from ≡ Nothing → ⊥
 blocks-end s from zero h w e = omega arith
 blocks-end s from (suc left) h w e =
     let z : length (blocksIn (suc left) s from) ≡ 0 = rw (block-falls changeBlockFits s from e) in
     omega arith
+
+pub block-left : (s : List ℕ) (from left : ℕ) → 0 < left → length (blocksIn left s from) ≡ left → (h : Head) × (blockAt s from ≡ Stands h)
+block-left s from left h w = go (blockAt s from) refl
+  where
+    go : (b : BlockAt) → blockAt s from ≡ b → (k : Head) × (blockAt s from ≡ Stands k)
+    go (Stands k) e = (k, e)
+    go Nothing e = absurd (blocks-end s from left h w e)
 
 -- a step over the blocks that are left
 blocks-next : (s : List ℕ) (from left : ℕ) (h : Head) → blockAt s from ≡ Stands h → length (blocksIn (suc left) s from) ≡ suc left → blocksIn (suc left) s from ≡ blockIn s from ∷ blocksIn left s (h .next)
@@ -47,6 +57,25 @@ blocks-next s from left h st w =
     go : (b : Block) (g : Got (List Block)) → length (valueOr [] (andThen g (λ bs u. got (b ∷ bs) u))) ≡ suc left → valueOr [] (andThen g (λ bs u. got (b ∷ bs) u)) ≡ b ∷ valueOr [] g
     go b (got bs u) e = refl
     go b bad e = absurd (omega arith)
+
+-- an address takes six bytes
+pub step-six : (s : List ℕ) (at : ℕ) (a : Address) (next : ℕ) → stepAt s at ≡ Next a next → next ≡ at + 6
+unfolding stepAt
+step-six s at a next e = go (leb (at + 6) (addressesEnd s)) (address .read (drop at s)) e
+  where
+    go : (b : Bool) (g : Got Address) → cond b (stepOf (at + 6) g) End ≡ Next a next → next ≡ at + 6
+    go true (got x t) q = cc
+    go true bad q = absurd (let z : _≡_ {A = ℕ} 0 1 = cc in omega arith)
+    go false g q = absurd (let z : _≡_ {A = ℕ} 0 1 = cc in omega arith)
+
+-- an error now, or one before
+pub error-now : (before now : Bool) → now ≡ true → true ≡ (before || now)
+error-now true now e = refl
+error-now false now e = sym e
+
+pub error-before : (before now : Bool) → now ≡ false → before ≡ (before || now)
+error-before true now e = refl
+error-before false now e = sym e
 
 -- what n addresses and blocks come to, from two places on
 abbrev pub ahead : List ℕ → ℕ → ℕ → ℕ → List ℕ → ChangedAll

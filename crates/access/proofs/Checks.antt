@@ -1,5 +1,5 @@
 -- The elements that an address names stand inside their row, and no row has more of them than the fault buffer.
-use mathlib.Core.Path.{_≡_, refl, ap, subst}
+use mathlib.Core.Path.{_≡_, refl, ap, subst, sym, _∙_}
 use mathlib.Core.Bool.{Bool, true, false, cond, not, _&&_, _||_}
 use mathlib.Core.List.{List, [], _∷_, List·Memᴰ}
 use mathlib.Mathlib.Data.Bool.Basic.{or-eq-false-eq-eq-false-and-eq-false as or-eq-false-iff}
@@ -100,3 +100,13 @@ module _ (a : Address) where
 
   pub checked-inside : (r : Row) (n : ℕ) → checked a ≡ Elements r n → a .subindex + n ≤ bufferCodes
   checked-inside r n e = let it = checked-named r n e in omega (arith, it .room, it .short)
+
+-- what the catalogue found decides, for a read and for a change
+module _ (a : Address) (f : Found) (e : f ≡ findOf (a .pnu)) where
+  pub check-nothing : f ≡ Nothing → Error 0x00 ≡ checked a
+  unfolding checked
+  check-nothing n = ap (checkedIn a) (sym n ∙ e)
+
+  pub check-row : (r : Row) (q : Checked) → f ≡ At r → q ≡ checkedIn a (At r) → q ≡ checked a
+  unfolding checked
+  check-row r q n w = w ∙ ap (checkedIn a) (sym n ∙ e)

@@ -1,11 +1,14 @@
 pub mod Checks
+pub mod Copied
 pub mod Gathered
 pub mod Room
 pub mod Filled
 pub mod Reading
+pub mod Valued
 pub mod Storing
 pub mod Answering
 pub mod Failing
+pub mod Heads
 pub mod Changing
 pub mod Requested
 pub mod Responding

@@ -2,21 +2,22 @@
 use mathlib.Core.Path.{_≡_, refl, sym, _∙_, ap, subst}
 use mathlib.Core.Bool.{Bool, true, false, cond}
 use mathlib.Core.List.{List, [], _∷_}
-use Prim.Native.Nat.{ℕ, suc, _+_, _*_, _≤_, _<_}
+use Prim.Native.Nat.{ℕ, suc, _+_, _*_, _%_, _≤_, _<_}
 use native.Mathlib.Omega.{arith}
 use lib.Dec.{eqb, leb}
 use lib.ListN.{length, length-append}
 use borrow.Author.Tests.{le-leb, lt-leb, leb-true}
 use Rattle.codes.specs.Code.{writeAll}
-use Rattle.blocks.specs.Block.{Block, blockLimit, valuesSize}
+use Rattle.codes.specs.Number.{put}
+use Rattle.blocks.specs.Block.{Block, blockLimit, valueSize}
 use Rattle.blocks.specs.Page.{blockBytes}
-use Rattle.blocks.specs.Place.{putBlock}
 use Rattle.blocks.specs.declared.reader.Address.{Address}
-use Rattle.blocks.proofs.Parts.{block-written, block-counted, error-bytes}
-use Rattle.drive.specs.Faults.{bufferCodes}
+use Rattle.blocks.proofs.Blocks.{values-size, fill-even}
+use Rattle.blocks.proofs.Parts.{block-written, error-bytes}
 use Rattle.catalogue.specs.declared.Kind.{Kind}
 use Rattle.catalogue.specs.declared.Kind.the-variants.{U8, U16, I16, I32}
 use Rattle.catalogue.specs.declared.Row.{Row}
+use Rattle.catalogue.specs.Table.{elementSize}
 use Rattle.catalogue.specs.Element.{sizeCode}
 use Rattle.access.specs.declared.Checked.{Checked}
 use Rattle.access.specs.declared.Checked.the-variants.{Elements, Error}
@@ -24,6 +25,7 @@ use Rattle.access.specs.Address.{checked, errorBlock}
 use Rattle.access.specs.Read.{elementsFrom, blockSize, fitted, answerTo, readBlock, readBlocks}
 use Rattle.access.specs.Walk.{Wrote}
 use Rattle.access.proofs.Gathered.{elements-length}
+use Rattle.access.proofs.Answers.{size-same}
 
 pub size-written : (b : Block) → blockSize b ≡ length (blockBytes b)
 size-written b = block-written (b .format) (length (b .values)) (b .values) refl
@@ -38,13 +40,16 @@ no-error U16 = refl
 no-error I16 = refl
 no-error I32 = refl
 
--- a block of n elements, with the size that the code has of it
-module _ (r : Row) (i n : ℕ) (p : List ℕ) (at after f size : ℕ) (code : f ≡ sizeCode (r .kind)) (sized : size ≡ 2 + valuesSize f n) where
+-- a block of n elements, with the size that the code works out of theirs
+module _ (r : Row) (i n : ℕ) (p : List ℕ) (w : ℕ) (wide : w ≡ elementSize (r .kind)) (at after size : ℕ) (sized : size ≡ 2 + n * w + n * w % 2) where
   abbrev b : Block
   b = record { format = sizeCode (r .kind); values = elementsFrom r i n p }
 
   size-is : size ≡ blockSize b
-  size-is = sized ∙ rw (code, elements-length r p i n)
+  size-is =
+      let k = sizeCode (r .kind) in
+      let e : n * valueSize k ≡ n * w = ap (λ (z : ℕ). n * z) (size-same (r .kind) ∙ sym wide) in
+      rw (elements-length r p i n) (omega (arith, sized, e, values-size k n, fill-even k n))
 
   pub elements-unfit : blockLimit < at + size + 4 * after → errorBlock 0x15 ≡ fitted at after b
   elements-unfit h = rw (lt-leb (at + blockSize b + 4 * after) blockLimit (omega (arith, size-is)))
@@ -52,11 +57,11 @@ module _ (r : Row) (i n : ℕ) (p : List ℕ) (at after f size : ℕ) (code : f 
   elements-fit : at + size + 4 * after ≤ blockLimit → fitted at after b ≡ b
   elements-fit h = rw (le-leb (at + blockSize b + 4 * after) blockLimit (omega (arith, size-is)))
 
-  pub elements-written : (l m vs : List ℕ) → n ≤ bufferCodes → vs ≡ elementsFrom r i n p → at + size + 4 * after ≤ blockLimit → m ≡ putBlock l at (record { format = f; values = vs }) → Wrote l m at (fitted at after b) (record { next = at + size; error = false })
-  elements-written l m vs few same h e =
+  pub elements-written : (l m : List ℕ) → at + size + 4 * after ≤ blockLimit → m ≡ put l at (blockBytes b) → Wrote l m at (fitted at after b) (record { next = at + size; error = false })
+  elements-written l m h e =
       subst (λ (x : Block). Wrote l m at x (record { next = at + size; error = false })) (sym (elements-fit h))
       (record {
-        bytes = e ∙ (rw (code, same) refl ∙ block-counted l at b (omega (arith, elements-length r p i n)));
+        bytes = e;
         next = ap (λ (k : ℕ). at + k) (size-is ∙ size-written b);
         error = sym (no-error (r .kind));
       })

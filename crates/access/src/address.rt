@@ -54,8 +54,20 @@ fn of_row(a: Address, r: Row) -> Checked
     }
 }
 
-// The elements that an address names, from its sub-index on, or its error.
-pub fn check(a: Address) -> Checked
+// The elements that an address of a request names, from its sub-index on, or its error. This stands twice, each with one caller: with two it
+// stays a call, which hands a whole row over in memory.
+pub fn check_read(a: Address) -> Checked
+    ensures { λ q. ⌜ q ≡ checked a ⌝ }
+{
+    let f = catalogue::find(a.pnu);
+    let Found::At(r) = f else {
+        return Checked::Error(0x00);
+    };
+    of_row(a, r)
+}
+
+// The same of an address of a change.
+pub fn check_change(a: Address) -> Checked
     ensures { λ q. ⌜ q ≡ checked a ⌝ }
 {
     let f = catalogue::find(a.pnu);

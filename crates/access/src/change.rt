@@ -5,20 +5,22 @@ ghost use Prim.Native.Nat.{_+_, _*_, _≤_};
 ghost use lib.Dec.{eqb};
 ghost use lib.ListN.{length};
 ghost use Rattle.codes.specs.Code.{readable};
-ghost use Rattle.codes.specs.Number.{numbersAt};
+ghost use Rattle.codes.specs.Number.{numberAt, numbersAt};
 ghost use Rattle.drive.specs.Faults.{bufferCodes};
 ghost use Rattle.blocks.specs.Block.{blockLimit};
 ghost use Rattle.blocks.specs.Request.{request};
 ghost use Rattle.blocks.specs.Place.{headerOf, blockAt, walk};
 ghost use Rattle.blocks.specs.declared.BlockAt.the-variants.{Stands};
-ghost use Rattle.catalogue.specs.Element.{sizeCode, typeCode};
+ghost use Rattle.blocks.specs.declared.Head.{Head};
+ghost use Rattle.catalogue.specs.Table.{elementSize};
+ghost use Rattle.catalogue.specs.Element.{sizeCode, typeCode, valueOf};
 ghost use Rattle.access.specs.Change.{allInside, storeFrom, storeWhole, ofElements, changeOne, changeAll};
 ghost use Rattle.access.specs.Work.{workedChange};
 ghost use Rattle.access.specs.Walk.{blockIn, blocksIn, answerIn, Did, DidAll, Wrote, requestIn, respondedPart};
 use super::Checked;
+use super::copies;
 use super::reply;
 use super::reply::Written;
-use blocks::BlockAt;
 use blocks::Head;
 use blocks::Header;
 use blocks::reader::Address;
@@ -65,16 +67,30 @@ fn is_format(k: Kind, f: u8) -> bool
     codes::either(same_size, f == catalogue::type_code(k))
 }
 
+// The value of a kind whose bytes stand at `at`: the width is known from the kind, so no bound of one or two bytes is tested.
+fn value_here(k: Kind, s: &[u8], at: usize) -> i32
+    requires { ⌜ at + elementSize k ≤ length (now s) ⌝ }
+    ensures { λ r. ⌜ r ≡ valueOf k (numberAt (elementSize k) (now (s .entry)) at) ⌝ }
+{
+    match k {
+        Kind::U8 => s[at] as i32,
+        Kind::U16 => (s[at] as i32) * 256 + (s[at + 1] as i32),
+        Kind::I16 => codes::signed16((s[at] as u16) * 256 + (s[at + 1] as u16)) as i32,
+        Kind::I32 => codes::signed32(codes::number_at(s, at, 4)),
+    }
+}
+
 // Whether all values are inside the limits of a row.
 fn all_inside(r: Row, block: &[u8], v: Values) -> bool
-    requires { ⌜ v .at + v .count * v .size ≤ length (now block) ⌝ }
+    requires { ⌜ (v .at + v .count * v .size ≤ length (now block)) × (v .size ≡ elementSize (r .kind)) ⌝ }
     ensures { λ b. ⌜ b ≡ allInside r (numbersAt (v .size) (v .count) (now (block .entry)) (v .at)) ⌝ }
 {
+    let k = r.kind;
     let mut at = v.at;
     let mut untested = v.count;
     while 0 < untested {
-        let x = codes::number_at(block, at, v.size);
-        if !catalogue::is_inside(r, x) {
+        let x = value_here(k, block, at);
+        if !catalogue::is_within(r, x) {
             return false;
         }
         at += v.size;
@@ -83,8 +99,8 @@ fn all_inside(r: Row, block: &[u8], v: Values) -> bool
     true
 }
 
-// Stores the values in the elements of a row, from element i on.
-fn store(part: &mut [u8], r: Row, i: u16, block: &[u8], v: Values)
+// Stores the values in the elements of a row, from element i on, where the part is too short for all of them: each that fits.
+fn store_each(part: &mut [u8], r: Row, i: u16, block: &[u8], v: Values)
     requires { ⌜ (i + v .count ≤ bufferCodes) × (v .at + v .count * v .size ≤ length (now block)) ⌝ }
     ensures { λ q. ⌜ now (part .exit) ≡ storeFrom r i (numbersAt (v .size) (v .count) (now (block .entry)) (v .at)) (now (part .entry)) ⌝ }
 {
@@ -100,9 +116,23 @@ fn store(part: &mut [u8], r: Row, i: u16, block: &[u8], v: Values)
     }
 }
 
+// The same for every part: the values' bytes, as they are, where all fit.
+fn store(part: &mut [u8], r: Row, i: u16, block: &[u8], v: Values)
+    requires { ⌜ (i + v .count ≤ bufferCodes) × (v .at + v .count * v .size ≤ length (now block)) × (v .size ≡ elementSize (r .kind)) ⌝ }
+    ensures { λ q. ⌜ now (part .exit) ≡ storeFrom r i (numbersAt (v .size) (v .count) (now (block .entry)) (v .at)) (now (part .entry)) ⌝ }
+{
+    let first = (r.offset as usize) + (i as usize) * v.size;
+    let bytes = (v.count as usize) * v.size;
+    if part.len() < first + bytes {
+        store_each(part, r, i, block, v);
+    } else {
+        copies::copy(part, first, block, v.at, bytes);
+    }
+}
+
 // Stores all values in the elements of a row, from element i on, where all are inside its limits; else none, and that is 0x02.
 fn store_whole(part: &mut [u8], r: Row, i: u16, block: &[u8], v: Values) -> Done
-    requires { ⌜ (i + v .count ≤ bufferCodes) × (v .at + v .count * v .size ≤ length (now block)) ⌝ }
+    requires { ⌜ (i + v .count ≤ bufferCodes) × (v .at + v .count * v .size ≤ length (now block)) × (v .size ≡ elementSize (r .kind)) ⌝ }
     ensures { λ d. ⌜ Did (storeWhole r i (numbersAt (v .size) (v .count) (now (block .entry)) (v .at)) (now (part .entry))) (now (part .exit)) d ⌝ }
 {
     if !all_inside(r, block, v) {
@@ -141,7 +171,7 @@ fn change_elements(
     }
     let v = Values {
         at: at + 2,
-        size: catalogue::element_size(k),
+        size: h.size,
         count: n,
     };
     store_whole(part, r, a.subindex, block, v)
@@ -152,7 +182,7 @@ fn change_one(part: &mut [u8], a: Address, block: &[u8], at: usize, h: Head) -> 
     requires { ⌜ blockAt (now block) at ≡ Stands h ⌝ }
     ensures { λ d. ⌜ Did (changeOne a (blockIn (now (block .entry)) at) (now (part .entry))) (now (part .exit)) d ⌝ }
 {
-    let c = super::address::check(a);
+    let c = super::address::check_change(a);
     match c {
         Checked::Error(e) => fail(e),
         Checked::Elements(r, n) => change_elements(part, a, r, n, block, at, h),
@@ -161,16 +191,34 @@ fn change_one(part: &mut [u8], a: Address, block: &[u8], at: usize, h: Head) -> 
 
 // `40 00`, or the error.
 fn put_answer(out: &mut [u8], at: usize, d: Done) -> Written
-    requires { ⌜ at ≤ blockLimit ⌝ }
+    requires { ⌜ (at ≤ blockLimit) × (at + 2 ≤ length (now out)) ⌝ }
     ensures { λ w. ⌜ Wrote (now (out .entry)) (now (out .exit)) at (answerIn d) w ⌝ }
 {
     if d.failed {
         return reply::put_failed(out, at, d.error);
     }
-    blocks::writer::put_empty(out, at);
+    out[at] = 0x40;
+    out[at + 1] = 0;
     Written {
         next: at + 2,
         error: false,
+    }
+}
+
+// How the block of values at `at` begins: one stands there.
+fn head_here(block: &[u8], at: usize) -> Head
+    requires { ⌜ ((h : Head) × (blockAt (now block) at ≡ Stands h)) ⌝ }
+    ensures { λ h. ⌜ blockAt (now (block .entry)) at ≡ Stands h ⌝ }
+{
+    let f = block[at];
+    let n = block[at + 1];
+    let size = blocks::format_size(f);
+    let bare = codes::wide(n) * size;
+    Head {
+        format: f,
+        count: n,
+        size,
+        next: at + 2 + bare + bare % 2,
     }
 }
 
@@ -180,32 +228,28 @@ pub(crate) fn change_all(part: &mut [u8], block: &[u8], n: usize, out: &mut [u8]
     ensures { λ d. ⌜ DidAll (changeAll (walk n (now (block .entry)) 4) (blocksIn n (now (block .entry)) (4 + n * 6)) (now (part .entry))) (now (part .exit)) (now (out .entry)) (now (out .exit)) d ⌝ }
 {
     let mut at = blocks::reader::FIRST;
-    let mut from = at + n * 6;
-    let mut left = n;
+    let end = at + n * 6;
+    let mut from = end;
     let mut all = Changes {
         next: blocks::reader::FIRST,
         error: false,
         stored: 0,
     };
-    while 0 < left {
+    while at < end {
         let s = blocks::reader::address_at(block, at);
         let Step::Next(a, next) = s else {
             return all;
         };
-        let b = blocks::block_at(block, from);
-        let BlockAt::Stands(h) = b else {
-            return all;
-        };
+        let h = head_here(block, from);
         let d = change_one(part, a, block, from, h);
         let w = put_answer(out, all.next, d);
         all = Changes {
             next: w.next,
-            error: codes::either(all.error, w.error),
+            error: if w.error { true } else { all.error },
             stored: all.stored + d.stored,
         };
         at = next;
         from = h.next;
-        left -= 1;
     }
     all
 }

@@ -5,6 +5,7 @@ use catalogue::Row;
 
 pub mod address;
 mod change;
+mod copies;
 mod read;
 mod reply;
 

@@ -1,11 +1,14 @@
 // A request (01): the blocks of values and errors that answer its addresses.
 ghost use mathlib.Core.Path.{_≡_};
 ghost use mathlib.Core.Bool.{true};
-ghost use Prim.Native.Nat.{_+_, _*_, _≤_};
-ghost use lib.ListN.{length, take};
+ghost use mathlib.Core.List.{_∷_, _++_};
+ghost use Prim.Native.Nat.{_+_, _%_, _≤_};
+ghost use lib.ListN.{length, take, drop, replicate};
 ghost use Rattle.codes.specs.Code.{readable};
+ghost use Rattle.codes.specs.Number.{put};
 ghost use Rattle.drive.specs.Faults.{bufferCodes};
 ghost use Rattle.blocks.specs.Block.{blockLimit};
+ghost use Rattle.blocks.specs.Page.{blockBytes};
 ghost use Rattle.blocks.specs.Request.{request};
 ghost use Rattle.blocks.specs.Place.{headerOf, walk};
 ghost use Rattle.catalogue.specs.Element.{sizeCode};
@@ -13,6 +16,7 @@ ghost use Rattle.access.specs.Read.{elementsFrom, fitted, readBlock, rea
 ghost use Rattle.access.specs.Work.{workedRead};
 ghost use Rattle.access.specs.Walk.{Wrote, WroteAll, requestIn, respondedPart};
 use super::Checked;
+use super::copies;
 use super::reply;
 use super::reply::Written;
 use blocks::Header;
@@ -35,6 +39,30 @@ fn gather(part: &[u8], r: Row, i: u16, n: u16, values: &mut [u32; MOST])
     }
 }
 
+// The block of n elements of a row, from element i on, where the part may be too short for some: each is read by itself.
+fn put_gathered(part: &[u8], r: Row, i: u16, n: u16, out: &mut [u8], at: usize)
+    requires { ⌜ i + n ≤ bufferCodes ⌝ }
+    ensures { λ q. ⌜ now (out .exit) ≡ put (now (out .entry)) at (blockBytes (record { format = sizeCode (r .kind); values = elementsFrom r i n (now (part .entry)) })) ⌝ }
+{
+    let k = r.kind;
+    let mut values = [0u32; MOST];
+    gather(part, r, i, n, &mut values);
+    blocks::writer::put_block(out, at, catalogue::size_code(k), &values[..n as usize]);
+}
+
+// The same for elements that all stand in the part, from `from` on: their bytes, as they are.
+fn put_copy(part: &[u8], from: usize, bytes: usize, f: u8, n: u8, out: &mut [u8], at: usize)
+    requires { ⌜ (from + bytes ≤ length (now part)) × (at + (2 + bytes + bytes % 2) ≤ length (now out)) ⌝ }
+    ensures { λ q. ⌜ now (out .exit) ≡ put (now (out .entry)) at (f ∷ n ∷ take bytes (drop from (now (part .entry))) ++ replicate (bytes % 2) 0) ⌝ }
+{
+    out[at] = f;
+    out[at + 1] = n;
+    copies::copy(out, at + 2, part, from, bytes);
+    if bytes % 2 == 1 {
+        out[at + 2 + bytes] = 0;
+    }
+}
+
 // A block of values goes in only where it leaves 4 bytes for each address after it.
 fn put_elements(
     part: &[u8],
@@ -45,18 +73,22 @@ fn put_elements(
     at: usize,
     after: usize,
 ) -> Written
-    requires { ⌜ (i + n ≤ bufferCodes) × (at ≤ blockLimit) × (after ≤ blockLimit) ⌝ }
+    requires { ⌜ (i + n ≤ bufferCodes) × (at ≤ blockLimit) × (after ≤ blockLimit) × (length (now out) ≡ blockLimit) ⌝ }
     ensures { λ w. ⌜ Wrote (now (out .entry)) (now (out .exit)) at (fitted at after (record { format = sizeCode (r .kind); values = elementsFrom r i n (now (part .entry)) })) w ⌝ }
 {
     let k = r.kind;
-    let f = catalogue::size_code(k);
-    let size = blocks::writer::block_size(f, n as u8);
+    let each = catalogue::element_size(k);
+    let bytes = (n as usize) * each;
+    let size = 2 + bytes + bytes % 2;
     if blocks::BLOCK_LIMIT < at + size + 4 * after {
         return reply::put_failed(out, at, 0x15);
     }
-    let mut values = [0u32; MOST];
-    gather(part, r, i, n, &mut values);
-    blocks::writer::put_block(out, at, f, &values[..n as usize]);
+    let from = (r.offset as usize) + (i as usize) * each;
+    if part.len() < from + bytes {
+        put_gathered(part, r, i, n, out, at);
+    } else {
+        put_copy(part, from, bytes, catalogue::size_code(k), n as u8, out, at);
+    }
     Written {
         next: at + size,
         error: false,
@@ -65,10 +97,10 @@ fn put_elements(
 
 // The block for one address, with `at` bytes before it and `after` addresses to come.
 fn read_one(part: &[u8], a: Address, out: &mut [u8], at: usize, after: usize) -> Written
-    requires { ⌜ (at ≤ blockLimit) × (after ≤ blockLimit) ⌝ }
+    requires { ⌜ (at ≤ blockLimit) × (after ≤ blockLimit) × (length (now out) ≡ blockLimit) ⌝ }
     ensures { λ w. ⌜ Wrote (now (out .entry)) (now (out .exit)) at (readBlock (now (part .entry)) at after a) w ⌝ }
 {
-    let c = super::address::check(a);
+    let c = super::address::check_read(a);
     match c {
         Checked::Error(e) => reply::put_failed(out, at, e),
         Checked::Elements(r, n) => put_elements(part, r, a.subindex, n, out, at, after),

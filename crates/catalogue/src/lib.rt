@@ -1,6 +1,8 @@
 // The catalogue of an axis's parameters, and their elements in the bytes of a part.
 ghost use mathlib.Core.Path.{_≡_};
+ghost use mathlib.Core.Bool.{_&&_};
 ghost use lib.ListN.{take, drop};
+ghost use lib.Signed.{leZ};
 ghost use Rattle.catalogue.specs.Table.{elementSize, rows, rowAt, findIn, findOf};
 ghost use Rattle.catalogue.specs.Element.{sizeCode, typeCode, valueOf, inside, elementOf, putElement, freshOf};
 
@@ -460,12 +462,18 @@ pub fn value_of(k: Kind, x: u32) -> i32
 }
 
 // Whether a value lies inside a parameter's limits.
+pub fn is_within(r: Row, v: i32) -> bool
+    ensures { λ q. ⌜ q ≡ (leZ (r .low) v && leZ v (r .high)) ⌝ }
+{
+    if r.low <= v { v <= r.high } else { false }
+}
+
+// The same of the value that an element's bytes stand for.
 pub fn is_inside(r: Row, x: u32) -> bool
     ensures { λ q. ⌜ q ≡ inside r x ⌝ }
 {
     let k = r.kind;
-    let v = value_of(k, x);
-    if r.low <= v { v <= r.high } else { false }
+    is_within(r, value_of(k, x))
 }
 
 // What element i of a row holds.

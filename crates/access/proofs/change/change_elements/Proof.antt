@@ -1,11 +1,11 @@
 -- The tests in their order, then the values, which are as wide as the elements.
-use mathlib.Core.Path.{refl, sym, _∙_, subst}
+use mathlib.Core.Path.{refl, sym, _∙_, ap, subst}
 use mathlib.Core.List.{List}
 use Prim.Native.Nat.{ℕ}
 use native.Mathlib.Omega.{arith}
 use denote.Ref.{now}
 use borrow.Author.Tests.{not-true, not-false}
-use Rattle.blocks.specs.Block.{changeBlockFits}
+use Rattle.blocks.specs.Block.{valueSize, changeBlockFits}
 use Rattle.blocks.proofs.Blocks.{block-stands}
 use Rattle.access.specs.Change.{storeWhole}
 use Rattle.access.specs.Walk.{blockIn, Did}
@@ -67,20 +67,18 @@ add-t13 : tie.Need-add-t13
 add-t13 c =
     let a = c .before .before .before .before .before .before .before .before .args in
     let s = now (a .block) in
-    omega (arith, values-room s (a .at) (a .h) (block-stands changeBlockFits s (a .at) (a .h) (c .before .before .before .before .before .before .before .before .pre .1)) _ _ refl refl)
-
-element-size-requires : tie.Need-element-size-requires
-element-size-requires c κs = search needs
+    omega (arith, values-room s (a .at) (a .h) (block-stands changeBlockFits s (a .at) (a .h) (c .before .before .before .before .before .before .before .before .pre .1)) (a .h .count) refl)
 
 store-whole-requires : tie.Need-store-whole-requires
 store-whole-requires c κs =
-    let a = c .before .before .before .before .before .before .before .before .before .before .args in
+    let a = c .before .before .before .before .before .before .before .before .before .args in
     let s = now (a .block) in
-    let f = c .before .before .before .before .before .is-format in (
+    let f = c .before .before .before .before .is-format in
+    let st = block-stands changeBlockFits s (a .at) (a .h) (c .before .before .before .before .before .before .before .before .before .pre .1) in
+    let known = sym (f .ensures) ∙ not-false (f .result) (c .before .before .before .if2 .left) in (
       search needs,
-      values-room s (a .at) (a .h) (block-stands changeBlockFits s (a .at) (a .h) (c .before .before .before .before .before .before .before .before .before .before .pre .1)) (c .before .element-size .result) (a .n)
-          (format-same (a .r .kind) (a .h .format) (of-kind (a .r .kind) (a .h .format) (sym (f .ensures) ∙ not-false (f .result) (c .before .before .before .before .if2 .left))) ∙ sym (c .before .element-size .ensures))
-          (c .before .before .if3 .left),
+      values-room s (a .at) (a .h) st (a .n) (c .before .if3 .left),
+      st .size ∙ (ap valueSize (sym (st .format)) ∙ format-same (a .r .kind) (a .h .format) (of-kind (a .r .kind) (a .h .format) known)),
     )
 
 same-length : tie.Need-same-length
@@ -88,19 +86,17 @@ same-length c = search needs
 
 returns-4 : tie.Need-returns-4
 returns-4 c =
-    let a = c .before .before .before .before .before .before .before .before .before .before .before .before .before .args in
+    let a = c .before .before .before .before .before .before .before .before .before .before .before .before .args in
     let s = now (a .block) in
-    let st = c .before .before .before .before .before .before .before .before .before .before .before .before .before .pre .1 in
-    let f = c .before .before .before .before .before .before .before .before .is-format in
-    let known = sym (f .ensures) ∙ not-false (f .result) (c .before .before .before .before .before .before .before .if2 .left) in
-    let size = c .before .before .before .before .element-size in
+    let st = c .before .before .before .before .before .before .before .before .before .before .before .before .pre .1 in
+    let f = c .before .before .before .before .before .before .before .is-format in
     let d = c .before .before .store-whole in
     is-stored (a .a) (blockIn s (a .at)) (now (a .part)) (d .last .0) (a .r) (a .n) (a .h .format) (a .h .count) (d .result) (head-format s (a .at) (a .h) st) (head-count s (a .at) (a .h) st)
-    (not-false (a .r .writable) (c .before .before .before .before .before .before .before .before .before .if1 .left))
-    known
-    (c .before .before .before .before .before .if3 .left)
+    (not-false (a .r .writable) (c .before .before .before .before .before .before .before .before .if1 .left))
+    (sym (f .ensures) ∙ not-false (f .result) (c .before .before .before .before .before .before .if2 .left))
+    (c .before .before .before .before .if3 .left)
     (subst (λ (xs : List ℕ). Did (storeWhole (a .r) (a .a .subindex) xs (now (a .part))) (d .last .0) (d .result))
-    (values-stand s (a .at) (a .h) (block-stands changeBlockFits s (a .at) (a .h) st) (size .result) (a .n) (format-same (a .r .kind) (a .h .format) (of-kind (a .r .kind) (a .h .format) known) ∙ sym (size .ensures)) (c .before .before .before .before .before .if3 .left))
+    (values-stand s (a .at) (a .h) (block-stands changeBlockFits s (a .at) (a .h) st) (a .n) (c .before .before .before .before .if3 .left))
     (d .ensures))
 
 pub change-elements-spec : {M : Type 1} → statement M
@@ -116,7 +112,6 @@ change-elements-spec =
     fail-requires-3
     returns-3
     add-t13
-    element-size-requires
     store-whole-requires
     same-length
     returns-4)

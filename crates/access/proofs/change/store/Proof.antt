@@ -1,72 +1,73 @@
--- The loop's invariant: what is left to store from where it stands is what was to be stored at first.
-use mathlib.Core.Path.{refl}
+-- Their bytes are copied, or each value that fits is stored.
 use native.Mathlib.Omega.{arith}
 use denote.Ref.{now}
-use Rattle.access.proofs.Storing.{Storing, room-next, store-next, store-end}
+use Rattle.codes.proofs.Fixed.{Bytes}
+use Rattle.catalogue.proofs.Elements.{index-small}
+use Rattle.access.proofs.Storing.{store-copied}
 use borrow.Author.Needs.{needs}
 use Rattle.access.proofs.change.store.Statement.{statement}
 use Rattle.access.proofs.change.store.Tie as tie
 
-abbrev Inv-loop : tie.InvT-loop
-Inv-loop part₀ r i block v at₀ to₀ left₀ part at to left = Storing r (v .size) (v .count) block (v .at) i part₀ part at to left
+cast-first : tie.Need-cast-first
+cast-first c = search needs
 
-abbrev μ-loop : tie.MeasureT-loop
-μ-loop part₀ r i block v at₀ to₀ left₀ part at to left = left
+mul-first : tie.Need-mul-first
+mul-first c =
+    let entry = c .before .before .before .before in
+    omega (arith, index-small (entry .args .i) (entry .args .v .size) (entry .args .r .kind) (omega arith) (entry .pre .2))
 
-loop-holds : tie.Need-loop-holds Inv-loop μ-loop
-loop-holds c = record { room = search needs; few = search needs; size = refl; todo = refl }
+add-first : tie.Need-add-first
+add-first c =
+    let entry = c .before .before .before .before in
+    omega (arith, c .before .struct-known .given, index-small (entry .args .i) (entry .args .v .size) (entry .args .r .kind) (omega arith) (entry .pre .2))
 
-number-at-requires : tie.Need-number-at-requires Inv-loop μ-loop
-number-at-requires c κs = search needs
+cast-bytes : tie.Need-cast-bytes
+cast-bytes c = search needs
 
-put-element-requires : tie.Need-put-element-requires Inv-loop μ-loop
-put-element-requires c κs = search needs
+mul-bytes : tie.Need-mul-bytes
+mul-bytes c = search needs
 
-add-at : tie.Need-add-at Inv-loop μ-loop
-add-at c =
-    let a = c .before .before .before .before .before .before .before .before .before .before .args in
-    let l = c .before .before .before .before .before .before .before .loop in
-    omega (arith, room-next (a .v .size) (l .left) (l .at) (now (a .block)) (omega arith) (l .inv .room))
+add-if1 : tie.Need-add-if1
+add-if1 c =
+    let entry = c .before .before .before .before .before .before in
+    omega (arith, c .before .before .before .struct-known .given, index-small (entry .args .i) (entry .args .v .size) (entry .args .r .kind) (omega arith) (entry .pre .2))
 
-add-to : tie.Need-add-to Inv-loop μ-loop
-add-to c = omega (arith, c .before .before .before .before .before .before .before .loop .inv .few)
+store-each-requires : tie.Need-store-each-requires
+store-each-requires c κs = search needs
 
-sub-left : tie.Need-sub-left Inv-loop μ-loop
-sub-left c = search needs
+copy-requires : tie.Need-copy-requires
+copy-requires c κs = search needs
 
-loop-less : tie.Need-loop-less Inv-loop μ-loop
-loop-less c = search needs
+same-length : tie.Need-same-length
+same-length c = search needs
 
-loop-again : tie.Need-loop-again Inv-loop μ-loop
-loop-again c =
-    let a = c .before .before .before .before .before .before .before .before .before .before .args in
-    let l = c .before .before .before .before .before .before .before .loop in
-    let x = c .before .before .before .before .before .number-at in
-    let m = c .before .before .before .put-element in
-    store-next (a .r) (a .v .size) (a .v .count) (now (a .block)) (a .v .at) (a .i) (now (a .part)) (l .part) (l .at) (l .to) (l .left) (l .inv) (x .result) (m .last .0) (omega arith) (x .ensures) (m .ensures) (m .kept .0)
+returns : tie.Need-returns
+returns c = search needs
 
-same-length : tie.Need-same-length Inv-loop μ-loop
-same-length c = c .before .loop .inv .size
+same-length-2 : tie.Need-same-length-2
+same-length-2 c = search needs
 
-returns : tie.Need-returns Inv-loop μ-loop
-returns c =
-    let a = c .before .before .before .before .args in
-    let l = c .before .loop in
-    store-end (a .r) (a .v .size) (a .v .count) (now (a .block)) (a .v .at) (a .i) (now (a .part)) (l .part) (l .at) (l .to) (l .left) (l .inv) (omega arith)
+returns-2 : tie.Need-returns-2
+returns-2 c =
+    let entry = c .before .before .before .before .before .before .before .before .before .before .before in
+    let a = entry .args in
+    let s = now (a .block) in
+    let y : Bytes s = λ i. omega (arith, c .before .before .before .before .before .before .before .before .before .shared-slice-known .given i) in
+    store-copied (a .r) (a .v .size) (a .v .count) s (a .v .at) (a .i) (now (a .part)) _ (entry .pre .2) y (entry .pre .1) (omega arith) (c .before .before .copy .ensures)
 
 pub store-spec : {M : Type 1} → statement M
 store-spec =
     tie.close
     (tie.spec
-    Inv-loop
-    μ-loop
-    loop-holds
-    number-at-requires
-    put-element-requires
-    add-at
-    add-to
-    sub-left
-    loop-less
-    loop-again
+    cast-first
+    mul-first
+    add-first
+    cast-bytes
+    mul-bytes
+    add-if1
+    store-each-requires
+    copy-requires
     same-length
-    returns)
+    returns
+    same-length-2
+    returns-2)

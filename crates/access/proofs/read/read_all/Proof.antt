@@ -39,7 +39,7 @@ sub-left : tie.Need-sub-left Inv-loop μ-loop
 sub-left c = search needs
 
 read-one-requires : tie.Need-read-one-requires Inv-loop μ-loop
-read-one-requires c κs = (omega arith, omega arith)
+read-one-requires c κs = (omega arith, omega arith, c .before .before .before .before .before .before .loop .inv .size ∙ search needs)
 
 either-requires : tie.Need-either-requires Inv-loop μ-loop
 either-requires c κs = search needs

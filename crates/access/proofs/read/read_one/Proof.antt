@@ -10,8 +10,8 @@ use borrow.Author.Needs.{needs}
 use Rattle.access.proofs.read.read_one.Statement.{statement}
 use Rattle.access.proofs.read.read_one.Tie as tie
 
-check-requires : tie.Need-check-requires
-check-requires c κs = search needs
+check-read-requires : tie.Need-check-read-requires
+check-read-requires c κs = search needs
 
 enum-known-c : tie.Need-enum-known-c
 enum-known-c c = search needs
@@ -26,7 +26,7 @@ put-elements-requires : tie.Need-put-elements-requires
 put-elements-requires c κs =
     let v = c .before .before .c2 .given in
     let a = c .before .before .before .before .before .before .before .args in
-    (checked-inside (a .a) (v .0 .0) (v .0 .1 .0) (sym (c .before .before .before .before .check .ensures) ∙ v .1), search needs, search needs)
+    (checked-inside (a .a) (v .0 .0) (v .0 .1 .0) (sym (c .before .before .before .before .check-read .ensures) ∙ v .1), search needs, search needs, search needs)
 
 same-length : tie.Need-same-length
 same-length c = search needs
@@ -37,7 +37,7 @@ returns c =
     let v = c .before .before .before .before .before .c .given in
     let f = c .before .before .put-failed in
     subst (λ (b : Block). Wrote (now (a .out)) (f .last .0) (a .at) b (f .result))
-    (block-is (now (a .part)) (a .at) (a .after) (a .a) (Error (v .0 .0)) (sym (v .1) ∙ c .before .before .before .before .before .before .before .check .ensures))
+    (block-is (now (a .part)) (a .at) (a .after) (a .a) (Error (v .0 .0)) (sym (v .1) ∙ c .before .before .before .before .before .before .before .check-read .ensures))
     (f .ensures)
 
 same-length-2 : tie.Need-same-length-2
@@ -49,14 +49,14 @@ returns-2 c =
     let v = c .before .before .before .before .before .c2 .given in
     let f = c .before .before .put-elements in
     subst (λ (b : Block). Wrote (now (a .out)) (f .last .1 .1 .1 .1 .0) (a .at) b (f .result))
-    (block-is (now (a .part)) (a .at) (a .after) (a .a) (Elements (v .0 .0) (v .0 .1 .0)) (sym (v .1) ∙ c .before .before .before .before .before .before .before .check .ensures))
+    (block-is (now (a .part)) (a .at) (a .after) (a .a) (Elements (v .0 .0) (v .0 .1 .0)) (sym (v .1) ∙ c .before .before .before .before .before .before .before .check-read .ensures))
     (f .ensures)
 
 pub read-one-spec : {M : Type 1} → statement M
 read-one-spec =
     tie.close
     (tie.spec
-    check-requires
+    check-read-requires
     enum-known-c
     put-failed-requires
     enum-known-c-2
