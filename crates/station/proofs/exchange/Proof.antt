@@ -87,7 +87,7 @@ returns-2 c =
     let e = rw (c .before .before .before .before .before .before .before .before .before .before .before .before .before .before .before .before .before .unread-length .ensures, unread-bytes (now (a .f)) .1) at (w .ensures) in
     let x = c .before .before .before .before .read-on in
     let r = rw (lent (a .farm) (w .last .0)) at (x .ensures) in
-    ends (a .farm) (now (a .f)) (now (a .reply)) (now (a .station)) (w .result) (w .last .1 .1 .1 .0) (w .last .0) (e .0) (e .1) (c .before .before .before .before .before .before .before .if1 .left) (x .result) (x .last .1 .0) (x .last .0) (r .0) (r .1 .0) (r .1 .1)
+    rw (c .before .before .before .before .before .before .before .if1 .left) (ends (a .farm) (now (a .f)) (now (a .reply)) (now (a .station)) (w .result) (w .last .1 .1 .1 .0) (w .last .0) (e .0) (e .1) (c .before .before .before .before .before .before .before .if1 .left) (x .result) (x .last .1 .0) (x .last .0) (r .0) (r .1 .0) (r .1 .1))
 
 pub exchange-spec : {M : Type 1} → statement M
 exchange-spec =
