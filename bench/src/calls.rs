@@ -4,7 +4,7 @@ use crate::measure::{answers, run, started};
 use crate::outside::Started;
 use crate::rows::{in_one_call, in_two_calls, rows, Row, MERGED};
 use crate::sides::{Ours, Plain, Side, Twin};
-use crate::table::{least, less, line, saved, slope, Figures, SIDES};
+use crate::table::{least, less, line, more, saved, slope, Figures, SIDES};
 use std::error::Error;
 use std::io;
 use std::time::Instant;
@@ -23,8 +23,9 @@ struct Measured<'a> {
     count: Figures,
 }
 
-/// Measures every row and prints its line, then how the cost grows with the addresses and what the merged call saves; where it
-/// costs more instead, that is the caller's to tell once the table is whole.
+/// Measures every row and prints its line, then the rows together, how the cost grows with the addresses and what the merged call
+/// saves. Where that costs more instead, or a row of ours more instructions than plain C's, it is the caller's to tell once the table
+/// is whole.
 pub fn measure(counter: &str) -> Result<Result<(), String>, Box<dyn Error>> {
     let rows = rows();
     for row in &rows {
@@ -36,9 +37,25 @@ pub fn measure(counter: &str) -> Result<Result<(), String>, Box<dyn Error>> {
         line(&row.name, time.map(Some), count.map(Some));
         measured.push(Measured { row, time, count });
     }
+    together(&measured);
     growth(&measured);
     let savings = MERGED.map(|what| saving(&measured, what));
-    Ok(savings.into_iter().collect())
+    Ok(savings.into_iter().chain(measured.iter().map(no_dearer)).collect())
+}
+
+/// One call of each row.
+fn together(measured: &[Measured]) {
+    let sum = |cost: fn(&Measured) -> Figures| measured.iter().map(cost).fold([0.0; SIDES.len()], more);
+    line("all rows together", sum(|one| one.time).map(Some), sum(|one| one.count).map(Some));
+}
+
+/// A row of ours takes no more instructions than plain C's. So no sum of rows does.
+fn no_dearer(one: &Measured) -> Result<(), String> {
+    let [ours, _, plain] = one.count;
+    match ours <= plain {
+        true => Ok(()),
+        false => Err(format!("{}: ours takes {ours} instructions, plain C {plain}", one.row.name)),
+    }
 }
 
 fn growth(measured: &[Measured]) {

@@ -9,7 +9,8 @@
 //! counted. The last four are programs that play the file JOURNAL, two for its lines and two for its season report.
 //! `bench pass ROW SIDE PASSES` makes one side's calls of a row, to be counted.
 //!
-//! It fails where our merged call takes more instructions than our write and our fetch of the same request.
+//! It fails where a row of ours takes more instructions than plain C's, and where our merged call takes more than our write and our
+//! fetch of the same request.
 
 #![deny(warnings)]
 

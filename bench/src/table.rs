@@ -59,6 +59,11 @@ fn least_squares(points: &[(f64, f64)]) -> Option<f64> {
     (across > 0.0).then_some(up / across)
 }
 
+/// What both cost.
+pub fn more(first: Figures, second: Figures) -> Figures {
+    std::array::from_fn(|side| first[side] + second[side])
+}
+
 /// What the second costs less than the first.
 pub fn less(first: Figures, second: Figures) -> Figures {
     std::array::from_fn(|side| first[side] - second[side])
