@@ -4,7 +4,7 @@ use crate::measure::{answers, run, started};
 use crate::outside::Started;
 use crate::rows::{in_one_call, in_two_calls, rows, Row, MERGED};
 use crate::sides::{Ours, Plain, Side, Twin};
-use crate::table::{least, less, line, more, saved, slope, Figures, SIDES};
+use crate::table::{both, least, less, line, saved, slope, Figures, SIDES};
 use std::error::Error;
 use std::io;
 use std::time::Instant;
@@ -40,12 +40,14 @@ pub fn measure(counter: &str) -> Result<Result<(), String>, Box<dyn Error>> {
     together(&measured);
     growth(&measured);
     let savings = MERGED.map(|what| saving(&measured, what));
-    Ok(savings.into_iter().chain(measured.iter().map(no_dearer)).collect())
+    let judged = savings.into_iter().chain(measured.iter().map(no_dearer));
+    let failures: Vec<String> = judged.filter_map(Result::err).collect();
+    Ok(if failures.is_empty() { Ok(()) } else { Err(failures.join("; ")) })
 }
 
 /// One call of each row.
 fn together(measured: &[Measured]) {
-    let sum = |cost: fn(&Measured) -> Figures| measured.iter().map(cost).fold([0.0; SIDES.len()], more);
+    let sum = |cost: fn(&Measured) -> Figures| measured.iter().map(cost).fold([0.0; SIDES.len()], both);
     line("all rows together", sum(|one| one.time).map(Some), sum(|one| one.count).map(Some));
 }
 

@@ -60,7 +60,7 @@ fn least_squares(points: &[(f64, f64)]) -> Option<f64> {
 }
 
 /// What both cost.
-pub fn more(first: Figures, second: Figures) -> Figures {
+pub fn both(first: Figures, second: Figures) -> Figures {
     std::array::from_fn(|side| first[side] + second[side])
 }
 

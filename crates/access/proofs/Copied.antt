@@ -1,18 +1,13 @@
 -- Bytes copied from list to list: one after the other they are put as a whole.
 use mathlib.Core.Path.{_≡_, sym, _∙_, ap}
 use mathlib.Core.List.{List, [], _∷_, _++_}
-use Prim.Native.Nat.{ℕ, zero, suc, _+_, _*_, _≤_}
+use Prim.Native.Nat.{ℕ, suc, _+_, _≤_}
 use native.Mathlib.Omega.{arith}
 use native.Mathlib.Numerals.{add-one}
-use native.Mathlib.Nat.{suc-mul}
 use lib.ListN.{length, getD, set, take, drop, length-drop}
-use lib.Seq.{length-take-le, take-add, take-at, drop-cons, drop-drop}
-use Rattle.codes.specs.Code.{writeAll, word}
-use Rattle.codes.specs.Number.{numberAt, numbersAt, put}
-use Rattle.codes.proofs.Sound.{word-sound}
-use Rattle.codes.proofs.Fixed.{Bytes, fixed-word}
-use Rattle.codes.proofs.Number.{number-is}
-use Rattle.codes.proofs.Put.{word-length, put-length, put-append, sets-put}
+use lib.Seq.{length-take-le, take-add, drop-cons, drop-drop}
+use Rattle.codes.specs.Number.{put}
+use Rattle.codes.proofs.Put.{put-length, put-append, sets-put}
 
 module _ (l : List ℕ) (at : ℕ) (s : List ℕ) (from : ℕ) where
   pub copied-two : at + 2 ≤ length l → from + 2 ≤ length s → set (set l at (getD s from 0)) (at + 1) (getD s (from + 1) 0) ≡ put l at (take 2 (drop from s))

@@ -245,7 +245,7 @@ pub(crate) fn change_all(part: &mut [u8], block: &[u8], n: usize, out: &mut [u8]
         let w = put_answer(out, all.next, d);
         all = Changes {
             next: w.next,
-            error: if w.error { true } else { all.error },
+            error: if w.error { true } else { all.error }, // asked in this order (decision 97)
             stored: all.stored + d.stored,
         };
         at = next;

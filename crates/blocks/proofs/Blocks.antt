@@ -14,7 +14,7 @@ use Rattle.codes.specs.Code.{Got, got, bad, readTimes, AllOf, writeAll, fill, w
 use Rattle.codes.specs.Number.{numberAt}
 use Rattle.codes.proofs.Sound.{word-sound}
 use Rattle.codes.proofs.Fixed.{Bytes, byte-at, byte-end, fixed-word, fixed-times, fill-zero, fill-other, small}
-use Rattle.codes.proofs.Items.{all-length, item-at, tail-stands, first-read}
+use Rattle.codes.proofs.Items.{all-length, item-at, tail-stands}
 use Rattle.codes.proofs.Number.{number-is}
 use Rattle.codes.proofs.Put.{word-length, fill-bytes}
 use Rattle.blocks.specs.declared.Head.{Head}
@@ -62,10 +62,6 @@ values-length f n vs e =
 pub values-size : (f n : ℕ) → valuesSize f n ≡ n * valueSize f + fillSize f n
 unfolding valuesSize
 values-size f n = values-length f n (replicate n 0) (length-replicate n 0)
-
--- as many values as a byte counts take at most 1020 bytes, filled up too, since that is even
-pub values-few : (f n : ℕ) → n < 256 → valuesSize f n ≤ 1020
-values-few f n h = omega (arith, values-size f n, fill-even f n, small n (valueSize f) h (size-small f))
 
 -- fewer bytes hold no such values
 values-short : (f n : ℕ) (s : List ℕ) → length s < valuesSize f n → valuesOf f n .read s ≡ bad
@@ -197,30 +193,6 @@ module _ (fits : ℕ → ℕ → Bool) (s : List ℕ) (at : ℕ) where
       go : (g : Got Block) → block fits .read (drop at s) ≡ g → headOf (length s) g ≡ Nothing → block fits .read (drop at s) ≡ bad
       go (got b t) e q = absurd (let z : _≡_ {A = ℕ} 0 1 = cc in omega arith)
       go bad e q = e
-
--- one block more of a run of blocks
-pub record BlockStep (fits : ℕ → ℕ → Bool) (s : List ℕ) (at n : ℕ) (b : Block) (bs : List Block) (t : List ℕ) : Type 0 where
-  pub head : Head
-  pub stands : blockBy fits s at ≡ Stands head
-  pub format : head .format ≡ b .format
-  pub count : head .count ≡ length (b .values)
-  pub inside : head .next ≤ length s
-  pub read : block fits .read (drop at s) ≡ got b (drop (head .next) s)
-  pub rest : readTimes (block fits .read) n (drop (head .next) s) ≡ got bs t
-
-pub block-step : (fits : ℕ → ℕ → Bool) (s : List ℕ) (at n : ℕ) (b : Block) (bs : List Block) (t : List ℕ) → readTimes (block fits .read) (suc n) (drop at s) ≡ got (b ∷ bs) t → BlockStep fits s at n b bs t
-block-step fits s at n b bs t e =
-    let p = first-read (block fits .read) n (drop at s) b bs t e in
-    let stood = rest-stands fits s at b (p .0) (p .1) in
-    record {
-      head = record { format = b .format; count = length (b .values); size = valueSize (b .format); next = length s - length (p .0) };
-      stands = rw (p .1);
-      format = refl;
-      count = refl;
-      inside = omega arith;
-      read = p .1 ∙ ap (got b) stood;
-      rest = ap (readTimes (block fits .read) n) (sym stood) ∙ p .2;
-    }
 
 values-valid : (fits : ℕ → ℕ → Bool) (b : Block) → block fits .Valid b → AllOf (word (valueSize (b .format)) .Valid) (b .values)
 unfolding block valuesOf

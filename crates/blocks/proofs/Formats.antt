@@ -10,7 +10,7 @@ use borrow.Table.Steps.{cases}
 use Rattle.blocks.specs.Block.{formatSize, valueSize, codeSize, changeBlockFits, responseBlockFits}
 
 -- whether f is a size code
-abbrev pub isCode : ℕ → Bool
+abbrev isCode : ℕ → Bool
 isCode f = leb 0x41 f && leb f 0x43
 
 module _ (f : ℕ) where

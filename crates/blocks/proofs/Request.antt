@@ -2,17 +2,18 @@
 use mathlib.Core.Path.{_≡_, refl, sym, _∙_, ap}
 use mathlib.Core.Bool.{Bool}
 use mathlib.Core.List.{List, [], _∷_, _++_, append-assoc, append-nil}
-use Prim.Native.Nat.{ℕ, _+_, _*_, _<_}
+use Prim.Native.Nat.{ℕ, _+_, _*_, _≤_, _<_}
 use native.Mathlib.Omega.{arith}
 use native.Mathlib.Nat.{zero-add}
-use lib.ListN.{length, drop}
+use lib.ListN.{length, getD, drop, length-append, length-drop}
 use lib.Seq.{drop-drop, drop-at}
 use borrow.Author.Tests.{lt-ltb}
 use Rattle.codes.specs.Code.{got, readTimes, writeAll}
 use Rattle.codes.specs.Number.{numberAt}
 use Rattle.codes.proofs.Sound.{times-sound}
 use Rattle.codes.proofs.Items.{all-length}
-use Rattle.codes.proofs.Number.{number-is}
+use Rattle.codes.proofs.Fixed.{Bytes}
+use Rattle.codes.proofs.Number.{number-is, byte-number}
 use Rattle.blocks.specs.declared.Header.{Header}
 use Rattle.blocks.specs.declared.reader.Address.{Address}
 use Rattle.blocks.specs.Block.{Block, changeBlockFits, responseBlockFits, valuesSize, block}
@@ -110,11 +111,21 @@ module _ (rule : ℕ → ℕ → Bool) (s : List ℕ) (at : ℕ) (b : Block) (t 
   block-laid : drop at s ≡ blockBytes b ++ t
   block-laid = block-sound rule .only (drop at s) b t e .1 ∙ ap (λ (l : List ℕ). l ++ t) (block-bytes rule b)
 
+  pub block-room : at + (2 + valuesSize (b .format) (length (b .values))) ≤ length s
+  block-room = omega (arith, ap length block-laid, length-append (blockBytes b) t, block-written (b .format) (length (b .values)) (b .values) refl, length-drop at s)
+
   pub format-here : numberAt 1 s at ≡ b .format
   format-here = byte-here s at (b .format) _ (block-fits .format) block-laid
 
   pub count-here : numberAt 1 s (at + 1) ≡ length (b .values)
   count-here = byte-here s (at + 1) (length (b .values)) _ (block-fits .number) (sym (drop-drop 1 at s) ∙ ap (drop 1) block-laid)
+
+  -- and so they stand there as bytes
+  pub format-byte : Bytes s → b .format ≡ getD s at 0
+  format-byte y = sym format-here ∙ byte-number s y at (omega (arith, block-room))
+
+  pub count-byte : Bytes s → length (b .values) ≡ getD s (at + 1) 0
+  count-byte y = sym count-here ∙ byte-number s y (at + 1) (omega (arith, block-room))
 
   pub after-block : t ≡ drop (at + (2 + valuesSize (b .format) (length (b .values)))) s
   after-block =

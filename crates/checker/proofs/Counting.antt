@@ -24,7 +24,7 @@ use Rattle.blocks.proofs.Sound.{address-sound, block-sound}
 use Rattle.blocks.proofs.Page.{block-bytes, block-valid}
 use Rattle.blocks.proofs.Formats.{answer-code}
 use Rattle.blocks.proofs.Parts.{block-written}
-use Rattle.blocks.proofs.Request.{request-header, addresses-read, response-header, answers-read, format-here, count-here, after-block}
+use Rattle.blocks.proofs.Request.{request-header, addresses-read, response-header, answers-read, block-room, format-byte, count-byte, after-block}
 use Rattle.blocks.proofs.Addresses.{address-here}
 use Rattle.checker.specs.Check.{countFits, countsFit}
 use Rattle.checker.specs.Inner.{BothRead, BothCount, AsRead}
@@ -118,19 +118,8 @@ module _ (s t : List ℕ) (bytes-s : Bytes s) (bytes-t : Bytes t) (q : Request) 
     elements-here : x .elements ≡ getD s (from + 1) 0
     elements-here = let z = same in let a : x ≡ here = cc in ap (λ (a : Address). a .elements) a ∙ byte-number s bytes-s (from + 1) (omega (arith, address-room))
 
-  -- the block that is read here: its format, its count and all of its bytes
+  -- the block that is read here has a code for its format
   module _ (b : Block) (u : List ℕ) (e : block rule .read (drop at t) ≡ got b u) where
-    block-room : at + (2 + valuesSize (b .format) (length (b .values))) ≤ length t
-    block-room =
-        let laid = block-sound rule .only (drop at t) b u e .1 ∙ ap (λ (l : List ℕ). l ++ u) (block-bytes rule b) in
-        omega (arith, ap length laid, length-append (blockBytes b) u, block-written (b .format) (length (b .values)) (b .values) refl, length-drop at t)
-
-    format-is : getD t at 0 ≡ b .format
-    format-is = sym (byte-number t bytes-t at (omega (arith, block-room))) ∙ format-here rule t at b u e
-
-    count-is : getD t (at + 1) 0 ≡ length (b .values)
-    count-is = sym (byte-number t bytes-t (at + 1) (omega (arith, block-room))) ∙ count-here rule t at b u e
-
     block-code : 0x40 ≤ b .format
     block-code = answer-code (b .format) (r .identifier) (length (b .values)) (block-valid rule b .0 (block-sound rule .only (drop at t) b u e .0) .allowed)
 
@@ -149,8 +138,8 @@ module _ (s t : List ℕ) (bytes-s : Bytes s) (bytes-t : Bytes t) (q : Request) 
           let asks = first-read (address .read) m (drop from s) x more _ (l .addresses) in
           let gives = first-read (block rule .read) m (drop at t) b bs [] (l .blocks) in
           let elements = elements-here x (asks .0) (asks .1) in
-          let format = format-is b (gives .0) (gives .1) in
-          let count = count-is b (gives .0) (gives .1) in
+          let format = sym (format-byte rule t at b (gives .0) (gives .1) bytes-t) in
+          let count = sym (count-byte rule t at b (gives .0) (gives .1) bytes-t) in
           let after = after-block rule t at b (gives .0) (gives .1) in
           let test : countFits (x .elements) (b .format) (length (b .values)) ≡ countFits (getD s (from + 1) 0) (getD t at 0) (getD t (at + 1) 0) = rw (elements, ← format, ← count) in
           record {
@@ -158,7 +147,7 @@ module _ (s t : List ℕ) (bytes-s : Bytes s) (bytes-t : Bytes t) (q : Request) 
                 record {
                   address = address-room x (asks .0) (asks .1);
                   format = rw format (block-code b (gives .0) (gives .1));
-                  block = rw (format, count) (block-room b (gives .0) (gives .1));
+                  block = rw (format, count) (block-room rule t at b (gives .0) (gives .1));
                 };
             fails = λ unlike. sym (sym (l .todo) ∙ rw (test, unlike));
             goes =

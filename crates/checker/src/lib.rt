@@ -23,7 +23,7 @@ fn count_fits(elements: u8, f: u8, n: u8) -> bool
     if elements == 0 { n == 1 } else { n == elements }
 }
 
-// Bytes of a block of a response with n values of the format f.
+// Bytes of a block of a response with n values of the format f: `blocks::writer::block_size` knows the data types too, and costs more.
 fn answer_size(f: u8, n: u8) -> usize
     requires { ⌜ 0x40 ≤ f ⌝ }
     ensures { λ r. ⌜ r ≡ 2 + valuesSize f n ⌝ }
@@ -43,6 +43,7 @@ fn counts_fit(request: &[u8], response: &[u8], count: u8) -> bool
     while 0 < left {
         let f = response[at];
         let n = response[at + 1];
+        // An address has its elements in its second byte.
         if !count_fits(request[from + 1], f, n) {
             return false;
         }
@@ -58,6 +59,7 @@ fn compare(request: &[u8], response: &[u8]) -> u8
     requires { ⌜ BothRead (now request) (now response) ⌝ }
     ensures { λ n. ⌜ AsRead (now (request .entry)) (now (response .entry)) (λ q r. n ≡ compared q r) ⌝ }
 {
+    // A header is the reference, the identifier, the axis and N.
     if response[0] != request[0] {
         return 3;
     }

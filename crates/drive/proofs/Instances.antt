@@ -3,15 +3,18 @@ use mathlib.Core.Path.{_≡_, refl, sym, ap, _∙_}
 use mathlib.Core.Bool.{true, false, true≢false}
 use mathlib.Core.Logic.{_⊎_, inl, inr}
 use lib.ListN.{length}
+use borrow.Author.Tests.{eq-eqb}
 use Rattle.drive.specs.declared.states.State.the-variants.{S1, S3, S4, S51}
 use Rattle.drive.specs.declared.faults.Faults.{Faults}
 use Rattle.drive.specs.declared.Drive.{Drive}
 use Rattle.drive.specs.declared.Input.{Input}
+use Rattle.drive.specs.declared.CycleEnd.{CycleEnd}
 use Rattle.drive.specs.Speed.{still}
 use Rattle.drive.specs.Faults.{noFaults, isEmptyOf, bumpOf, putOf}
 use Rattle.drive.specs.Cycle.{bit, wordOf, wordUsed, acknowledges, afterAck, afterCode, isS4, cycleOf}
+use Rattle.drive.specs.Motion.{motionOf, movedOf, quietOf}
 use Rattle.drive.specs.Worked.{workedCycles}
-use Rattle.drive.proofs.Laws.{fault-means-s1, entry-into-s4, stay-in-s4, s4-needs-b1, acknowledged, must-acknowledge, not-acknowledged}
+use Rattle.drive.proofs.Laws.{fault-means-s1, entry-into-s4, stay-in-s4, s4-needs-b1, acknowledged, must-acknowledge, not-acknowledged, cycle-moves, quiet-exactly}
 
 -- EntryIntoS4: no entry from a state other than S3 and S51, S4 itself among them, nor one that ends elsewhere
 module _ (d : Drive) (i : Input) (entered : cycleOf d i .output .entered ≡ true) where
@@ -85,3 +88,15 @@ counter-stays d i e none = not-acknowledged d i e ∙ ap (λ x. afterCode x (d .
 -- FourCycles: four they are
 four : length workedCycles ≡ 4
 four = refl
+
+-- CycleMoves: of a cycle that acknowledges, or that a code comes with, steps 2 and 3 tell the faults
+moves-faults : (d : Drive) (i : Input) → cycleOf d i .drive .faults ≡ afterCode (i .fault) (afterAck (acknowledges (wordOf (wordUsed (i .stw1) (d .word))) (wordOf (d .word)) (i .fault) (d .faults)) (d .faults))
+moves-faults d i = ap (λ (x : CycleEnd). x .drive .faults) (cycle-moves d i)
+
+moves-state : cycleOf running failing .drive .state ≡ movedOf (motionOf running) true false failing .motion .state
+unfolding running failing wordOf wordUsed acknowledges afterAck afterCode
+moves-state = ap (λ (x : CycleEnd). x .drive .state) (cycle-moves running failing)
+
+-- QuietExactly: where no code comes and nothing is acknowledged, a cycle is quiet
+quiet-there : (d : Drive) (i : Input) → i .fault ≡ 0 → acknowledges (wordOf (wordUsed (i .stw1) (d .word))) (wordOf (d .word)) (i .fault) (d .faults) ≡ false → quietOf (d .word) (isEmptyOf (d .faults)) i ≡ true
+quiet-there d i n a = quiet-exactly d i ∙ rw (a, eq-eqb (i .fault) 0 n)

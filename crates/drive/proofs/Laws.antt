@@ -15,7 +15,7 @@ use Rattle.drive.specs.Faults.{isEmptyOf}
 use Rattle.drive.specs.Cycle.{wordOf, wordUsed, acknowledges, afterAck, afterCode, nextOf, stateAfter, isS4, entersS4, cycleOf}
 use Rattle.drive.specs.Laws.{FaultMeansS1, EntryIntoS4, StayInS4, S4NeedsB1, Acknowledged, MustAcknowledge, NotAcknowledged}
 pub use Rattle.drive.proofs.Proper.{keeps-length, keeps-proper}
-pub use Rattle.drive.proofs.Quiet.{quiet-keeps-faults}
+pub use Rattle.drive.proofs.Quiet.{cycle-moves, quiet-exactly, quiet-keeps-faults}
 
 pub fault-means-s1 : FaultMeansS1
 unfolding cycleOf stateAfter

@@ -2,15 +2,17 @@
 -- 02, R-1, what an acknowledge and an entry into S4 are.
 -- Each is a statement here and a proof in proofs/.
 use mathlib.Core.Path.{Path, _≡_}
-use mathlib.Core.Bool.{true, false, not}
+use mathlib.Core.Bool.{Bool, true, false, not, _&&_}
 use mathlib.Core.Logic.{_⊎_}
+use lib.Dec.{eqb}
 use lib.ListN.{length}
 use Rattle.drive.specs.declared.states.State.the-variants.{S1, S3, S4, S51}
+use Rattle.drive.specs.declared.faults.Faults.{Faults}
 use Rattle.drive.specs.declared.Drive.{Drive}
 use Rattle.drive.specs.declared.Input.{Input}
 use Rattle.drive.specs.declared.CycleEnd.{CycleEnd}
 use Rattle.drive.specs.Faults.{bufferCodes, isEmptyOf, acknowledgedOf, properFaults}
-use Rattle.drive.specs.Cycle.{bit, wordUsed, afterCode, cycleOf}
+use Rattle.drive.specs.Cycle.{bit, wordOf, wordUsed, acknowledges, afterAck, afterCode, cycleOf}
 use Rattle.drive.specs.Motion.{motionOf, withFaults, movedOf, quietOf}
 
 -- the fault buffer keeps its length
@@ -57,6 +59,24 @@ MustAcknowledge =
 -- where it did not, step 3 alone has changed the buffer
 abbrev pub NotAcknowledged : Type 0
 NotAcknowledged = (d : Drive) (i : Input) → cycleOf d i .output .acknowledged ≡ false → cycleOf d i .drive .faults ≡ afterCode (i .fault) (d .faults)
+
+-- what steps 2 and 3 of a cycle come to: whether it acknowledges, and the faults
+abbrev pub acknowledgesIn : Drive → Input → Bool
+acknowledgesIn d i = acknowledges (wordOf (wordUsed (i .stw1) (d .word))) (wordOf (d .word)) (i .fault) (d .faults)
+
+abbrev pub faultsAfter : Drive → Input → Faults
+faultsAfter d i = afterCode (i .fault) (afterAck (acknowledgesIn d i) (d .faults))
+
+-- every cycle is steps 2 and 3, and what `movedOf` makes of the record but for its faults
+abbrev pub CycleMoves : Type 0
+CycleMoves =
+    (d : Drive) (i : Input)
+    → let end = movedOf (motionOf d) (not (isEmptyOf (faultsAfter d i))) (acknowledgesIn d i) i in
+    Path CycleEnd (cycleOf d i) (record { drive = withFaults (end .motion) (faultsAfter d i); output = end .output })
+
+-- a cycle is quiet exactly when no code is sent and nothing is acknowledged
+abbrev pub QuietExactly : Type 0
+QuietExactly = (d : Drive) (i : Input) → quietOf (d .word) (isEmptyOf (d .faults)) i ≡ (eqb (i .fault) 0 && not (acknowledgesIn d i))
 
 -- a quiet cycle leaves the faults as they are, and goes through the other steps
 abbrev pub QuietKeepsFaults : Type 0

@@ -171,7 +171,7 @@ pub fn is_quiet(last: u16, empty: bool, i: Input) -> bool
     if b.b7 { before.b7 } else { true }
 }
 
-// Steps 1 and 4 to 7, which know of the faults only whether situation 0 is empty after steps 2 and 3.
+// Steps 1 and 4 to 7, which are told of steps 2 and 3 whether situation 0 is not empty after them, and whether step 2 acknowledged.
 pub fn move_on(m: Motion, faulted: bool, acknowledged: bool, i: Input) -> MotionEnd
     ensures { λ r. ⌜ r ≡ movedOf m faulted acknowledged i ⌝ }
 {

@@ -42,7 +42,7 @@ module _ (m : Motion) (p : List ℕ) (long : length p ≡ partSize) (bytes : Byt
   codes-stay = bytes-apart (bufferCodes * 2) (offsetOf 947) (motion-writes m) p refl ∙ sym (numbers-back 2 p bytes (lit≤ tt) bufferCodes (offsetOf 947) (omega (arith, long)))
 
   -- written back, the faults stand as they stood
-  pub faults-stay : putFaults (faultsOf p) (putMotion m p) ≡ putMotion m p
+  faults-stay : putFaults (faultsOf p) (putMotion m p) ≡ putMotion m p
   faults-stay =
       let f = faultsOf p in
       let q = putMotion m p in

@@ -58,7 +58,7 @@ driveOf p =
       faults = faultsOf p;
     }
 
--- the part with another drive record
+-- a word, a speed and the faults put in a part
 abbrev pub putWord : ℕ → ℕ → List ℕ → List ℕ
 putWord at x p = put p at (word 2 .write x)
 
@@ -68,7 +68,7 @@ putSpeed at v p = putWord at (bitsOf 2 (v .0)) p
 abbrev pub putFaults : Faults → List ℕ → List ℕ
 putFaults f p = put (putWord (offsetOf 944) (f .counter) p) (offsetOf 947) (writeAll (word 2 .write) (f .buffer))
 
--- what it holds beside the faults
+-- the part with another drive record, but for its faults
 abbrev pub putMotion : Motion → List ℕ → List ℕ
 putMotion m p =
     putSpeed (offsetOf 10103) (m .actual)
@@ -78,5 +78,6 @@ putMotion m p =
     (putWord (offsetOf 10100) (m .word)
     (put p stateAt (numberOf (m .state) ∷ []))))))
 
+-- the part with another drive record
 unfoldable pub putDrive : Drive → List ℕ → List ℕ
 putDrive d p = putFaults (d .faults) (putMotion (motionOf d) p)

@@ -7,7 +7,7 @@ mod runs; // runs.rt: runs of bytes
 mod start; // start.rt: a fresh part
 
 pub use form::well_formed;
-pub use record::is_empty;
+pub use record::has_no_fault;
 pub use record::load_faults;
 pub use record::load_motion;
 pub use record::number_of;

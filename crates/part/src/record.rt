@@ -79,7 +79,7 @@ pub fn load_faults(part: &[u8]) -> Faults
 }
 
 // Whether situation 0 holds no code.
-pub fn is_empty(part: &[u8]) -> bool
+pub fn has_no_fault(part: &[u8]) -> bool
     ensures { λ r. ⌜ r ≡ isEmptyOf (faultsOf (now (part .entry))) ⌝ }
 {
     codes::word_at(part, catalogue::AT_947 as usize) == 0

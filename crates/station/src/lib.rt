@@ -136,6 +136,7 @@ pub fn exchange(station: &mut [u8], farm: u32, f: &[u8], reply: &mut [u8]) -> Fr
     let start = (farm as usize - 1) * part::SIZE;
     let end = start + part::SIZE;
     let fetched = part_frame::read_on(&mut station[start..end], reply);
+    // The write's own answer: one put together anew costs more (decision 97).
     let mut answer = written;
     answer.length = fetched.length;
     answer

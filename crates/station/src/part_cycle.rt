@@ -96,7 +96,7 @@ pub(crate) fn cycle_on(
     }
     let i = input_of(part, flags, stw1, nsoll, nist, fault);
     let m = part::load_motion(part);
-    let empty = part::is_empty(part);
+    let empty = part::has_no_fault(part);
     if drive::is_quiet(m.word, empty, i) { // as nearly every cycle is
         return quiet_cycle(part, m, !empty, i);
     }

@@ -1,4 +1,3 @@
-use mathlib.Core.Path.{sym, _∙_}
 use borrow.Author.Needs.{needs}
 use Rattle.blocks.proofs.Formats.{codes-are}
 use Rattle.blocks.proofs.layout.value_fits.Statement.{statement}

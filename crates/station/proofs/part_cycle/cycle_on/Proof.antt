@@ -52,8 +52,8 @@ input-of-requires c κs = search needs
 load-motion-requires : tie.Need-load-motion-requires
 load-motion-requires c κs = search needs
 
-is-empty-requires : tie.Need-is-empty-requires
-is-empty-requires c κs = search needs
+has-no-fault-requires : tie.Need-has-no-fault-requires
+has-no-fault-requires c κs = search needs
 
 is-quiet-requires : tie.Need-is-quiet-requires
 is-quiet-requires c κs = search needs
@@ -75,7 +75,7 @@ returns-3 c =
     let bytes : Bytes (now (a .part)) = λ n. omega (arith, flags .before .before .before .before .slice-known .given n) in
     let input = rw (toZ-ofZ w16 (a .nsoll) (h .nsoll), toZ-ofZ w16 (a .nist) (h .nist)) at (loaded .before .before .input-of .ensures) in
     let motion = loaded .load-motion .ensures in
-    let empty = c .before .before .before .before .before .before .is-empty .ensures in
+    let empty = c .before .before .before .before .before .before .has-no-fault .ensures in
     let quiet = sym (c .before .before .before .before .before .is-quiet .ensures ∙ (λ j. quietOf (motion j .word) (empty j) (input j))) ∙ c .before .before .before .before .if3 .taken in
     let o = quiet-cycles (a .k) i (now (a .part)) (sym (w .ensures) ∙ not-false (w .result) (flags .before .if1 .left)) (flags .if2 .left) bytes quiet in
     let e = c .before .before .quiet-cycle .ensures in (
@@ -128,7 +128,7 @@ cycle-on-spec =
     returns-2
     input-of-requires
     load-motion-requires
-    is-empty-requires
+    has-no-fault-requires
     is-quiet-requires
     quiet-cycle-requires
     same-length-3

@@ -1,8 +1,8 @@
 -- The first code of the buffer is 0.
 use Rattle.catalogue.specs.Table.{rows, findOf, offsetOf}
 use borrow.Author.Needs.{needs}
-use Rattle.part.proofs.record.is_empty.Statement.{statement}
-use Rattle.part.proofs.record.is_empty.Tie as tie
+use Rattle.part.proofs.record.has_no_fault.Statement.{statement}
+use Rattle.part.proofs.record.has_no_fault.Tie as tie
 
 cast-word-at : tie.Need-cast-word-at
 cast-word-at c = search needs
@@ -14,5 +14,5 @@ returns : tie.Need-returns
 unfolding offsetOf findOf rows
 returns c = rw (c .word-at .ensures)
 
-pub is-empty-spec : {M : Type 1} → statement M
-is-empty-spec = tie.close (tie.spec cast-word-at word-at-requires returns)
+pub has-no-fault-spec : {M : Type 1} → statement M
+has-no-fault-spec = tie.close (tie.spec cast-word-at word-at-requires returns)
