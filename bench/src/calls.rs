@@ -24,8 +24,8 @@ struct Measured<'a> {
 }
 
 /// Measures every row and prints its line, then the rows together, how the cost grows with the addresses and what the merged call
-/// saves. Where that costs more instead, or a row of ours more instructions than plain C's, it is the caller's to tell once the table
-/// is whole.
+/// saves. Where the merged call costs more instead, or a row of ours more instructions than plain C's, it is the caller's to tell once
+/// the table is whole.
 pub fn measure(counter: &str) -> Result<Result<(), String>, Box<dyn Error>> {
     let rows = rows();
     for row in &rows {
