@@ -1,6 +1,6 @@
 -- Where a block of values stands, ends and holds its values.
 use mathlib.Core.Path.{_≡_, refl, sym, _∙_, ap}
-use mathlib.Core.List.{List, _∷_, _++_, append-nil, append-assoc}
+use mathlib.Core.List.{List, _++_, append-nil, append-assoc}
 use mathlib.Core.Bool.{Bool, true, false, true≢false, cond, _||_}
 use Prim.Native.Nat.{ℕ, zero, suc, _+_, _-_, _*_, _%_, _≤_, _<_}
 use native.Mathlib.Omega.{arith}
@@ -13,7 +13,7 @@ use borrow.Author.Tests.{eqb-true, eqb-false}
 use Rattle.codes.specs.Code.{Got, got, bad, readTimes, AllOf, writeAll, fill, word}
 use Rattle.codes.specs.Number.{numberAt}
 use Rattle.codes.proofs.Sound.{word-sound}
-use Rattle.codes.proofs.Fixed.{Bytes, byte-at, byte-end, fixed-word, fixed-times, fill-zero, fill-other, small}
+use Rattle.codes.proofs.Fixed.{Bytes, byte-at, byte-end, fixed-word, fixed-times, fill-zero, fill-other}
 use Rattle.codes.proofs.Items.{all-length, item-at, tail-stands}
 use Rattle.codes.proofs.Number.{number-is}
 use Rattle.codes.proofs.Put.{word-length, fill-bytes}

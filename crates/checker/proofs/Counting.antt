@@ -1,11 +1,11 @@
 -- The loop over the blocks of a response: what is left to be held against the addresses is what was to be held at first.
 use mathlib.Core.Path.{_≡_, refl, sym, _∙_, ap}
 use mathlib.Core.Bool.{Bool, true, false}
-use mathlib.Core.List.{List, [], _∷_, _++_}
+use mathlib.Core.List.{List, [], _∷_}
 use Prim.Native.Nat.{ℕ, zero, suc, _+_, _-_, _≤_, _<_}
 use native.Mathlib.Omega.{arith}
 use native.Mathlib.Numerals.{sub-one}
-use lib.ListN.{length, getD, drop, length-append, length-drop}
+use lib.ListN.{length, getD, drop, length-drop}
 use borrow.Author.Tests.{ne-eqb}
 use Rattle.codes.specs.Code.{got, readTimes}
 use Rattle.codes.specs.Number.{numberAt}
@@ -18,12 +18,10 @@ use Rattle.blocks.specs.declared.reader.Address.{Address}
 use Rattle.blocks.specs.Block.{Block, responseBlockFits, valuesSize, block}
 use Rattle.blocks.specs.Request.{Request, address, request}
 use Rattle.blocks.specs.Response.{Response, responseBlocks, response}
-use Rattle.blocks.specs.Page.{blockBytes}
 use Rattle.blocks.specs.Place.{headerOf, addressesEnd}
 use Rattle.blocks.proofs.Sound.{address-sound, block-sound}
-use Rattle.blocks.proofs.Page.{block-bytes, block-valid}
+use Rattle.blocks.proofs.Page.{block-valid}
 use Rattle.blocks.proofs.Formats.{answer-code}
-use Rattle.blocks.proofs.Parts.{block-written}
 use Rattle.blocks.proofs.Request.{request-header, addresses-read, response-header, answers-read, block-room, format-byte, count-byte, after-block}
 use Rattle.blocks.proofs.Addresses.{address-here}
 use Rattle.checker.specs.Check.{countFits, countsFit}
