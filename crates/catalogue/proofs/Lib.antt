@@ -1,3 +1,4 @@
 pub mod Elements
+pub mod Every
 pub mod Rows
 pub mod Sorted

@@ -17,7 +17,7 @@ use Rattle.codes.proofs.Put.{word-length, put-drop}
 use Rattle.catalogue.specs.declared.Row.{Row}
 use Rattle.catalogue.specs.declared.Found.the-variants.{At}
 use Rattle.catalogue.specs.Table.{elementSize, bytesOf, rows, bytesIn, parameterBytes, findIn, findOf}
-use Rattle.catalogue.specs.Element.{elementPlace, elementOf, putElement}
+use Rattle.catalogue.specs.Element.{elementPlace, elementOf, putElement, everyRow}
 
 -- a parameter that is found is a row of the table
 found-in : (rs : List Row) (pnu : ℕ) (r : Row) → findIn rs pnu ≡ At r → List·Memᴰ r rs
@@ -31,19 +31,15 @@ pub found-row : (pnu : ℕ) (r : Row) → findOf pnu ≡ At r → List·Memᴰ r
 unfolding findOf
 found-row pnu r e = found-in rows pnu r e
 
--- a test of every row of a list
-abbrev pub every : (Row → Bool) → List Row → Bool
-every ok [] = true
-every ok (r ∷ rs) = ok r && every ok rs
-
-pub every-row : (ok : Row → Bool) (rs : List Row) → every ok rs ≡ true → (q : Row) → List·Memᴰ q rs → ok q ≡ true
+-- a test that every row of a list passes
+pub every-row : (ok : Row → Bool) (rs : List Row) → everyRow ok rs ≡ true → (q : Row) → List·Memᴰ q rs → ok q ≡ true
 every-row ok [] e q m = absurd (List·Memᴰ·not-nil m)
 every-row ok (r ∷ rs) e q m = go (every-row ok rs) (List·Memᴰ·cases-cons m)
   where
-    two : (ok r ≡ true) × (every ok rs ≡ true)
-    two = and-eq-true-iff (ok r) (every ok rs) .0 e
+    two : (ok r ≡ true) × (everyRow ok rs ≡ true)
+    two = and-eq-true-iff (ok r) (everyRow ok rs) .0 e
 
-    go : (every ok rs ≡ true → (q : Row) → List·Memᴰ q rs → ok q ≡ true) → (q ≡ r) ⊎ List·Memᴰ q rs → ok q ≡ true
+    go : (everyRow ok rs ≡ true → (q : Row) → List·Memᴰ q rs → ok q ≡ true) → (q ≡ r) ⊎ List·Memᴰ q rs → ok q ≡ true
     go below (inl s) = ap ok s ∙ two .0
     go below (inr m) = below (two .1) q m
 

@@ -10,7 +10,7 @@ use borrow.Author.Tests.{ltb-true, ne-eqb}
 use Rattle.catalogue.specs.declared.Row.{Row}
 use Rattle.catalogue.specs.declared.Found.the-variants.{At, Nothing}
 use Rattle.catalogue.specs.Table.{rows, noRow, findIn}
-use Rattle.catalogue.proofs.Rows.{every}
+use Rattle.catalogue.specs.Element.{everyRow}
 
 -- the number of a row is above n
 abbrev past : ℕ → Row → Bool
@@ -19,17 +19,17 @@ past n r = ltb n (r .pnu)
 -- each number is below all those after it
 abbrev sorted : List Row → Bool
 sorted [] = true
-sorted (r ∷ rs) = every (past (r .pnu)) rs && sorted rs
+sorted (r ∷ rs) = everyRow (past (r .pnu)) rs && sorted rs
 
 pub rows-sorted : sorted rows ≡ true
 unfolding rows
 rows-sorted = refl
 
-every-cons : (ok : Row → Bool) (r : Row) (rs : List Row) → every ok (r ∷ rs) ≡ true → (ok r ≡ true) × (every ok rs ≡ true)
-every-cons ok r rs e = and-eq-true-iff (ok r) (every ok rs) .0 e
+every-cons : (ok : Row → Bool) (r : Row) (rs : List Row) → everyRow ok (r ∷ rs) ≡ true → (ok r ≡ true) × (everyRow ok rs ≡ true)
+every-cons ok r rs e = and-eq-true-iff (ok r) (everyRow ok rs) .0 e
 
-sorted-cons : (r : Row) (rs : List Row) → sorted (r ∷ rs) ≡ true → (every (past (r .pnu)) rs ≡ true) × (sorted rs ≡ true)
-sorted-cons r rs s = and-eq-true-iff (every (past (r .pnu)) rs) (sorted rs) .0 s
+sorted-cons : (r : Row) (rs : List Row) → sorted (r ∷ rs) ≡ true → (everyRow (past (r .pnu)) rs ≡ true) × (sorted rs ≡ true)
+sorted-cons r rs s = and-eq-true-iff (everyRow (past (r .pnu)) rs) (sorted rs) .0 s
 
 pub sorted-drop : (k : ℕ) (rs : List Row) → sorted rs ≡ true → sorted (drop k rs) ≡ true
 sorted-drop zero rs s = s
@@ -49,11 +49,11 @@ pub none : (rs : List Row) (pnu : ℕ) → Others rs pnu → Nothing ≡ findIn 
 none [] pnu o = refl
 none (r ∷ rs) pnu o = none rs pnu (o .1) ∙ other-row r rs pnu (o .0)
 
-others-past : (n pnu : ℕ) → pnu ≤ n → (rs : List Row) → every (past n) rs ≡ true → Others rs pnu
+others-past : (n pnu : ℕ) → pnu ≤ n → (rs : List Row) → everyRow (past n) rs ≡ true → Others rs pnu
 others-past n pnu h [] e = tt
 others-past n pnu h (r ∷ rs) e = let two = every-cons (past n) r rs e in (λ q. omega (arith, ltb-true n (r .pnu) (two .0)), others-past n pnu h rs (two .1))
 
-past-at : (n k : ℕ) (rs : List Row) → every (past n) rs ≡ true → k < length rs → n < getD rs k noRow .pnu
+past-at : (n k : ℕ) (rs : List Row) → everyRow (past n) rs ≡ true → k < length rs → n < getD rs k noRow .pnu
 past-at n k [] e h = absurd (omega arith)
 past-at n zero (r ∷ rs) e h = ltb-true n (r .pnu) (every-cons (past n) r rs e .0)
 past-at n (suc k) (r ∷ rs) e h = past-at n k rs (every-cons (past n) r rs e .1) (omega arith)

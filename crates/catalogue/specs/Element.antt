@@ -1,7 +1,7 @@
 -- Document 01, "Parameters of each axis": an element in a part's bytes, its value, its limits, and the codes of its type.
-use mathlib.Core.Bool.{Bool, cond, _&&_}
-use mathlib.Core.List.{List}
-use Prim.Native.Nat.{ℕ, _+_, _*_, _%_, _^_}
+use mathlib.Core.Bool.{Bool, true, cond, _&&_}
+use mathlib.Core.List.{List, [], _∷_}
+use Prim.Native.Nat.{ℕ, zero, suc, _+_, _*_, _%_, _^_}
 use lib.Dec.{eqb}
 use lib.IntN.{ℤ, pos}
 use lib.Signed.{leZ}
@@ -50,3 +50,13 @@ putElement r i x p = put p (elementPlace r i) (word (elementSize (r .kind)) .wri
 -- the fresh value of element i
 abbrev pub freshOf : Row → ℕ → ℕ
 freshOf r i = cond (eqb i 0) (r .fresh) (r .others)
+
+-- a test of the first n elements of a row
+abbrev pub everyElement : (ℕ → Bool) → ℕ → Bool
+everyElement ok zero = true
+everyElement ok (suc n) = everyElement ok n && ok n
+
+-- and of every row of a list
+abbrev pub everyRow : (Row → Bool) → List Row → Bool
+everyRow ok [] = true
+everyRow ok (r ∷ rs) = ok r && everyRow ok rs

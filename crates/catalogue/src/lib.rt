@@ -124,7 +124,7 @@ pub const ROW_965: Row = Row {
     offset: AT_965,
 };
 
-const ROW_9900: Row = Row {
+pub const ROW_9900: Row = Row {
     low: 0,
     high: 65535,
     fresh: 0,
@@ -137,7 +137,7 @@ const ROW_9900: Row = Row {
     offset: AT_9900,
 };
 
-const ROW_9901: Row = Row {
+pub const ROW_9901: Row = Row {
     low: 0,
     high: 65535,
     fresh: 0,
