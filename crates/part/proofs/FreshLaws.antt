@@ -15,8 +15,9 @@ use Rattle.catalogue.specs.declared.Row.{Row}
 use Rattle.catalogue.specs.Table.{rows, noRow, rowAt}
 use Rattle.catalogue.specs.Element.{putElement, freshOf}
 use Rattle.catalogue.proofs.Elements.{element-length}
-use Rattle.part.specs.Layout.{stateAt, partSize}
-use Rattle.part.specs.Fresh.{freshElements, freshRows, freshPart, freshOver}
+use Rattle.versions.specs.Keep.{filledWithin}
+use Rattle.part.specs.Layout.{stateAt, versionsAt, partSize}
+use Rattle.part.specs.Fresh.{freshElements, freshRows, freshFront, freshPart, freshOver}
 
 module _ (r : Row) where
   pub elements-length : (n : ℕ) (p : List ℕ) → length (freshElements r n p) ≡ length p
@@ -50,9 +51,10 @@ module _ (p : List ℕ) where
   unfolding freshOver
   left-alone n = sym (ap (λ (b : Bool). cond b freshPart p) (ne-eqb (length p) partSize n))
 
-  pub made-fresh : (n : ℕ) → length p ≡ partSize → n ≡ 1 → freshRows rows (put (put p 0 (replicate partSize 0)) stateAt (word 1 .write n)) ≡ freshOver p
-  unfolding freshOver freshPart
+  pub made-fresh : (n : ℕ) → length p ≡ partSize → n ≡ 1 → filledWithin versionsAt (freshRows rows (put (put p 0 (replicate partSize 0)) stateAt (word 1 .write n))) ≡ freshOver p
+  unfolding freshOver freshPart freshFront
   made-fresh n e one =
-      ap (λ (l : List ℕ). freshRows rows (put l stateAt (word 1 .write n))) (all-cleared p partSize e)
-      ∙ (ap (λ (k : ℕ). freshRows rows (put (replicate partSize 0) stateAt (word 1 .write k))) one
-      ∙ sym (ap (λ (b : Bool). cond b freshPart p) (eq-eqb (length p) partSize e)))
+      ap (filledWithin versionsAt)
+      (ap (λ (l : List ℕ). freshRows rows (put l stateAt (word 1 .write n))) (all-cleared p partSize e)
+      ∙ ap (λ (k : ℕ). freshRows rows (put (replicate partSize 0) stateAt (word 1 .write k))) one)
+      ∙ sym (ap (λ (b : Bool). cond b freshPart p) (eq-eqb (length p) partSize e))

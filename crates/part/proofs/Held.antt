@@ -1,16 +1,16 @@
 -- A part that a response was stored in: it waits there as it was given, and nothing else moves.
 use mathlib.Core.Path.{_≡_, refl, sym, _∙_, ap}
 use mathlib.Core.Bool.{Bool, true, _&&_, _||_, or-true, and-eq-true-iff}
-use mathlib.Core.List.{List, [], _∷_, _++_, append-nil}
+use mathlib.Core.List.{List, [], _∷_, _++_}
 use Prim.Native.Nat.{ℕ, zero, suc, _+_, _*_, _-_, _≤_, _<_}
 use native.Mathlib.Omega.{arith}
 use lib.Dec.{eqb, leb, lit≤}
-use lib.ListN.{length, take, drop, replicate, drop-of-length-le}
-use lib.Seq.{take-all, take-append-seam, drop-append-seam, drop-at, length-take-le}
+use lib.ListN.{length, take, drop, replicate}
+use lib.Seq.{take-append-seam, drop-append-seam, drop-at, length-take-le}
 use borrow.Author.Tests.{eq-eqb, le-leb, leb-true}
 use Rattle.codes.specs.Code.{readable, readsAll, word}
 use Rattle.codes.specs.Number.{numberAt, put, signedOf}
-use Rattle.codes.proofs.Put.{put-length, put-fits, put-append, put-over}
+use Rattle.codes.proofs.Put.{put-length, put-fits, put-append, put-over, put-drop}
 use Rattle.codes.proofs.Number.{number-put, number-before, numbers-same}
 use Rattle.blocks.specs.Block.{blockLimit}
 use Rattle.blocks.specs.Response.{response}
@@ -19,10 +19,13 @@ use Rattle.drive.specs.Faults.{bufferCodes, zeros}
 use Rattle.catalogue.specs.declared.Row.{Row}
 use Rattle.catalogue.specs.declared.Found.the-variants.{At}
 use Rattle.catalogue.specs.Table.{rows, findOf, offsetOf, parameterBytes}
-use Rattle.catalogue.specs.Element.{elementOf}
-use Rattle.part.specs.Layout.{stateAt, effectiveAt, lengthAt, responseAt, partSize, waitingLength, responseRoom, waiting, withResponse}
+use Rattle.catalogue.specs.Element.{elementOf, everyRow}
+use Rattle.catalogue.proofs.Rows.{every-row}
+use Rattle.versions.specs.Keep.{taken}
+use Rattle.versions.proofs.Inner.{taken-alike}
+use Rattle.part.specs.Layout.{stateAt, effectiveAt, lengthAt, responseAt, versionsAt, partSize, waitingLength, responseRoom, waiting, withResponse, versions}
 use Rattle.part.specs.Record.{stateOf, faultsOf, driveOf}
-use Rattle.part.specs.WellFormed.{everyRow, limitsFit, fixedFit, waitingFits, unusedFit}
+use Rattle.part.specs.WellFormed.{limitsFit, fixedFit, waitingFits, unusedFit}
 use Rattle.part.proofs.Waiting.{byte-written, filled-length}
 use Rattle.part.proofs.Kept.{row-passes, row-safe, tested-safe, element-same, limits-same, fixed-same}
 
@@ -35,6 +38,13 @@ module _ (bs p : List ℕ) where
   pub response-length : length (withResponse bs p) ≡ length p
   unfolding withResponse
   response-length = put-length (put p lengthAt (length bs ∷ [])) responseAt _ ∙ put-length p lengthAt (length bs ∷ [])
+
+  -- the versions are as they were
+  pub response-versions : length bs ≤ blockLimit → versions (withResponse bs p) ≡ versions p
+  unfolding withResponse
+  response-versions short =
+      put-drop (put p lengthAt (length bs ∷ [])) responseAt _ versionsAt (omega (arith, filled-length bs short))
+      ∙ put-drop p lengthAt (length bs ∷ []) versionsAt (omega arith)
 
   -- a number that stands before the response is as it was
   pub response-apart : (w k : ℕ) → before w k ≡ true → numberAt w (withResponse bs p) k ≡ numberAt w p k
@@ -50,6 +60,12 @@ module _ (bs p : List ℕ) where
   -- every parameter is as it was
   pub response-element : (pnu : ℕ) (r : Row) (i : ℕ) → findOf pnu ≡ At r → i < r .count → elementOf r i (withResponse bs p) ≡ elementOf r i p
   response-element pnu r i f h = element-same before p (withResponse bs p) response-apart r i (row-passes (row-safe before) pnu r all-before f) h
+
+  -- and so the same version is taken
+  pub response-taken : (v : List ℕ) → taken (withResponse bs p) v ≡ taken p v
+  response-taken =
+      taken-alike (withResponse bs p) p
+      (λ r m i h. element-same before p (withResponse bs p) response-apart r i (every-row (row-safe before) rows all-before r m) h)
 
   pub response-state : numberAt 1 (withResponse bs p) stateAt ≡ numberAt 1 p stateAt
   unfolding rows parameterBytes
@@ -108,12 +124,11 @@ module _ (bs p : List ℕ) where
         let l = put p lengthAt (length bs ∷ []) in
         let n = filled-length bs short in
         let e : length l ≡ partSize = put-length p lengthAt (length bs ∷ []) ∙ long in
-        let none : drop (responseAt + length filled) l ≡ [] = drop-of-length-le l {i = responseAt + length filled} (omega arith) in
-        let stands : drop responseAt (put l responseAt filled) ≡ filled =
+        let rest = drop (responseAt + length filled) l in
+        let stands : drop responseAt (put l responseAt filled) ≡ filled ++ rest =
         ap (drop responseAt) (put-fits l responseAt filled (omega arith))
-        ∙ (drop-at (take responseAt l) (filled ++ drop (responseAt + length filled) l) responseAt (length-take-le responseAt l (omega arith))
-        ∙ (ap (λ (x : List ℕ). filled ++ x) none ∙ append-nil filled)) in
-        ap (take blockLimit) stands ∙ take-all blockLimit filled (omega arith)
+        ∙ drop-at (take responseAt l) (filled ++ rest) responseAt (length-take-le responseAt l (omega arith)) in
+        ap (take blockLimit) stands ∙ (ap (λ (k : ℕ). take k (filled ++ rest)) (sym n) ∙ take-append-seam filled rest)
 
     -- the response waits as it was given
     pub waiting-is-given : waiting (withResponse bs p) ≡ bs

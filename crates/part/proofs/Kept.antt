@@ -2,26 +2,17 @@
 use mathlib.Core.Path.{_≡_, refl, _∙_, ap}
 use mathlib.Core.Bool.{Bool, true, false, cond, not, _&&_, _||_, and-eq-true-iff}
 use mathlib.Core.List.{List, [], _∷_}
-use Prim.Native.Nat.{ℕ, zero, suc, _<_}
+use Prim.Native.Nat.{ℕ, _<_}
 use native.Mathlib.Omega.{arith}
-use native.Mathlib.Decide.{decLt}
 use lib.Dec.{eqb}
 use borrow.Table.Steps.{cases}
 use Rattle.codes.specs.Number.{numberAt}
 use Rattle.catalogue.specs.declared.Row.{Row}
 use Rattle.catalogue.specs.declared.Found.the-variants.{At}
 use Rattle.catalogue.specs.Table.{rows, elementSize, findIn, findOf}
-use Rattle.catalogue.specs.Element.{inside, elementPlace, elementOf, freshOf}
-use Rattle.part.specs.WellFormed.{everyElement, everyRow, limitsFit, fixedFit}
-
--- a test that every element passes
-pub every-at : (ok : ℕ → Bool) (n i : ℕ) → everyElement ok n ≡ true → i < n → ok i ≡ true
-every-at ok zero i e h = absurd (omega arith)
-every-at ok (suc n) i e h = go (decLt i n) (every-at ok n i)
-  where
-    go : Dec (i < n) → (everyElement ok n ≡ true → i < n → ok i ≡ true) → ok i ≡ true
-    go (yes y) ih = ih (and-eq-true-iff (everyElement ok n) (ok n) .0 e .0) y
-    go (no k) ih = let same : i ≡ n = omega arith in rw same (and-eq-true-iff (everyElement ok n) (ok n) .0 e .1)
+use Rattle.catalogue.proofs.Every.{every-same, every-at}
+use Rattle.catalogue.specs.Element.{inside, elementPlace, elementOf, freshOf, everyElement, everyRow}
+use Rattle.part.specs.WellFormed.{limitsFit, fixedFit}
 
 -- a test that every row of the table passes
 pub row-passes : (ok : Row → Bool) (pnu : ℕ) (r : Row) → everyRow ok rows ≡ true → findOf pnu ≡ At r → ok r ≡ true
@@ -36,14 +27,8 @@ row-passes ok pnu r = go rows
         (λ t. let same : At s ≡ At r = rw t at f in let q : s ≡ r = cc in rw (← q) (b .0))
         (λ t. go rs (b .1) (rw t at f))
 
-same-elements : (ok also : ℕ → Bool) (n : ℕ) → ((i : ℕ) → i < n → ok i ≡ also i) → everyElement ok n ≡ everyElement also n
-same-elements ok also zero h = refl
-same-elements ok also (suc n) h =
-    ap (λ (b : Bool). b && ok n) (same-elements ok also n (λ i k. h i (omega arith)))
-    ∙ ap (λ (b : Bool). everyElement also n && b) (h n (omega arith))
-
-same-asked : (asked : Bool) (ok also : ℕ → Bool) (n : ℕ) → (asked ≡ true → (i : ℕ) → i < n → ok i ≡ also i) → cond asked (everyElement ok n) true ≡ cond asked (everyElement also n) true
-same-asked true ok also n h = same-elements ok also n (h refl)
+pub same-asked : (asked : Bool) (ok also : ℕ → Bool) (n : ℕ) → (asked ≡ true → (i : ℕ) → i < n → ok i ≡ also i) → cond asked (everyElement ok n) true ≡ cond asked (everyElement also n) true
+same-asked true ok also n h = every-same ok also n (h refl)
 same-asked false ok also n h = refl
 
 same-rows : (ok also need : Row → Bool) → ((r : Row) → need r ≡ true → ok r ≡ also r) → (rs : List Row) → everyRow need rs ≡ true → everyRow ok rs ≡ everyRow also rs

@@ -2,16 +2,13 @@
 use mathlib.Core.Path.{_≡_, refl, sym, _∙_, ap}
 use mathlib.Core.Bool.{true}
 use mathlib.Core.List.{List, []}
-use Prim.Native.Nat.{ℕ, _≤_}
+use Prim.Native.Nat.{ℕ, _+_, _-_, _≤_}
 use native.Mathlib.Omega.{arith}
-use lib.ListN.{length, take, drop, replicate, length-replicate}
+use lib.ListN.{length, take, drop}
 use lib.Seq.{drop-drop}
 use Rattle.codes.specs.Code.{readable}
-use Rattle.codes.specs.Number.{numberAt, put}
-use Rattle.catalogue.specs.Table.{rows, findOf, offsetOf, parameterBytes}
-use Rattle.catalogue.specs.Element.{inside, elementOf, putElement}
-use Rattle.part.proofs.FreshLaws.{rows-length}
-use Rattle.codes.proofs.Put.{put-length}
+use Rattle.codes.specs.Number.{numberAt}
+use Rattle.catalogue.specs.Table.{offsetOf}
 use Rattle.codes.proofs.Number.{numbers-length}
 use Rattle.blocks.specs.Block.{blockLimit}
 use Rattle.blocks.specs.Response.{response}
@@ -21,17 +18,17 @@ use Rattle.drive.specs.declared.states.State.the-variants.{S1, S2, S3, S4, S51,
 use Rattle.drive.specs.declared.Drive.{Drive}
 use Rattle.drive.specs.declared.Input.{Input}
 use Rattle.drive.specs.Faults.{bufferCodes, properFaults}
-use Rattle.drive.specs.Cycle.{cycleOf, freshDrive}
+use Rattle.drive.specs.Cycle.{cycleOf}
 use Rattle.drive.proofs.Laws.{keeps-length, keeps-proper}
-use Rattle.part.specs.Layout.{stateAt, lengthAt, partSize, waitingLength, responseRoom, waiting, withResponse}
-use Rattle.part.specs.Record.{numberOf, stateOf, putDrive, driveOf}
-use Rattle.part.specs.Fresh.{freshPart}
-use Rattle.part.specs.WellFormed.{isState, limitsFit, fixedFit, waitingFits, unusedFit, wellFormed}
+use Rattle.versions.specs.Fit.{versionsFit}
+use Rattle.part.specs.Layout.{lengthAt, responseAt, versionsAt, waitingLength, responseRoom, waiting, withResponse, versions}
+use Rattle.part.specs.Record.{numberOf, putDrive, driveOf}
+use Rattle.part.specs.WellFormed.{isState, waitingFits, unusedFit, wellFormed}
 use Rattle.part.proofs.Rule.{form-of, form-is}
 pub use Rattle.part.proofs.Cycled.{InputFits, loaded-fits, cycled-fits}
 pub use Rattle.part.proofs.Stored.{Fits, ofRecord, drive-length, drive-response, drive-element, stored-is-loaded}
 pub use Rattle.part.proofs.Quiet.{motion-stored}
-pub use Rattle.part.proofs.Held.{response-length, response-element, response-drive, waiting-length-is, waiting-is-given, response-again}
+pub use Rattle.part.proofs.Held.{response-length, response-versions, response-taken, response-element, response-drive, waiting-length-is, waiting-is-given, response-again}
 use Rattle.part.proofs.Stored.{drive-limits, drive-fixed, state-stored, faults-stored}
 use Rattle.part.proofs.Held.{response-state, response-limits, response-fixed, response-faults, unused-zero, waits-well, waits-for-none, readable-short}
 
@@ -44,6 +41,12 @@ is-state S4 = refl
 is-state S51 = refl
 is-state S52 = refl
 
+-- bytes that are the same from a place on are so from a later one
+pub drop-later : (a b : ℕ) (p q : List ℕ) → a ≤ b → drop a q ≡ drop a p → drop b q ≡ drop b p
+drop-later a b p q h same =
+    let e : b ≡ a + (b - a) = omega arith in
+    rw e (sym (drop-drop (b - a) a q) ∙ (ap (drop (b - a)) same ∙ drop-drop (b - a) a p))
+
 -- a response's tests look at nothing before its length
 module _ (p q : List ℕ) (same : drop lengthAt q ≡ drop lengthAt p) where
   same-length : waitingLength q ≡ waitingLength p
@@ -51,15 +54,18 @@ module _ (p q : List ℕ) (same : drop lengthAt q ≡ drop lengthAt p) where
   same-length = rw same
 
   same-bytes : responseRoom q ≡ responseRoom p
-  same-bytes = ap (take blockLimit) (sym (drop-drop 1 lengthAt q) ∙ (ap (drop 1) same ∙ drop-drop 1 lengthAt p))
+  same-bytes = ap (take blockLimit) (drop-later lengthAt responseAt p q (omega arith) same)
 
-  same-waits : (axis : ℕ) → waitingFits axis q ≡ waitingFits axis p
+  pub same-waits : (axis : ℕ) → waitingFits axis q ≡ waitingFits axis p
   unfolding waitingFits
   same-waits axis = rw (same-length, same-bytes)
 
-  same-unused : unusedFit q ≡ unusedFit p
+  pub same-unused : unusedFit q ≡ unusedFit p
   unfolding unusedFit
   same-unused = rw (same-length, same-bytes)
+
+  pub same-versions : versions q ≡ versions p
+  same-versions = drop-later lengthAt versionsAt p q (omega arith) same
 
 -- a drive record with proper faults, stored, keeps a part well-formed
 pub drive-well-formed : (axis : ℕ) (d : Drive) (p : List ℕ) → wellFormed axis p ≡ true → properFaults (d .faults) ≡ true → Fits d → wellFormed axis (putDrive d p) ≡ true
@@ -74,6 +80,7 @@ drive-well-formed axis d p e proper f =
       faults = ap properFaults (faults-stored d p (g .size) f) ∙ proper;
       waits = same-waits p (putDrive d p) kept axis ∙ g .waits;
       unused = same-unused p (putDrive d p) kept ∙ g .unused;
+      kept = ap versionsFit (same-versions p (putDrive d p) kept) ∙ g .kept;
     })
 
 -- a cycle keeps a part well-formed
@@ -92,6 +99,13 @@ cycle-keeps-waiting p i =
     let kept = drive-response d p (keeps-length (driveOf p) i (numbers-length 2 bufferCodes p (offsetOf 947))) in
     rw (same-length p (putDrive d p) kept, same-bytes p (putDrive d p) kept)
 
+-- and the versions
+pub cycle-keeps-versions : (p : List ℕ) (i : Input) → versions (putDrive (cycleOf (driveOf p) i .drive) p) ≡ versions p
+unfolding driveOf
+cycle-keeps-versions p i =
+    let d = cycleOf (driveOf p) i .drive in
+    same-versions p (putDrive d p) (drive-response d p (keeps-length (driveOf p) i (numbers-length 2 bufferCodes p (offsetOf 947))))
+
 module _ (axis : ℕ) (p : List ℕ) (e : wellFormed axis p ≡ true) where
   holding : (bs : List ℕ) → length bs ≤ blockLimit → waitingFits axis (withResponse bs p) ≡ true → wellFormed axis (withResponse bs p) ≡ true
   holding bs short w =
@@ -104,6 +118,7 @@ module _ (axis : ℕ) (p : List ℕ) (e : wellFormed axis p ≡ true) where
         faults = ap properFaults (response-faults bs p) ∙ g .faults;
         waits = w;
         unused = unused-zero bs p (g .size) short;
+        kept = ap versionsFit (response-versions bs p short) ∙ g .kept;
       })
 
   -- a readable response of that axis keeps a part well-formed
@@ -115,17 +130,3 @@ module _ (axis : ℕ) (p : List ℕ) (e : wellFormed axis p ≡ true) where
   -- and so does none
   pub no-response-well-formed : wellFormed axis (withResponse [] p) ≡ true
   no-response-well-formed = holding [] (omega arith) (waits-for-none axis p (form-of axis p e .size))
-
--- a fresh part has the size of a part, and is well-formed for every axis
-pub fresh-length : length freshPart ≡ partSize
-unfolding freshPart
-fresh-length = rows-length rows _ ∙ (put-length (replicate partSize 0) stateAt _ ∙ length-replicate partSize 0)
-
-pub fresh-well-formed : (axis : ℕ) → wellFormed axis freshPart ≡ true
-unfolding wellFormed limitsFit fixedFit inside waitingFits unusedFit freshPart putElement elementOf put numberAt offsetOf findOf rows parameterBytes
-fresh-well-formed axis = refl
-
--- "Each axis starts in S1 with all fault situations empty."
-pub fresh-drive : driveOf freshPart ≡ freshDrive
-unfolding driveOf stateOf freshPart putElement elementOf put numberAt offsetOf findOf rows parameterBytes
-fresh-drive = refl

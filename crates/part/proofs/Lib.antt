@@ -12,4 +12,6 @@ pub mod Held
 pub mod Quiet
 pub mod Laws
 pub mod Cycled
+pub mod Versions
+pub mod FreshPart
 pub mod Instances

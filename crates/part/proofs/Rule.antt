@@ -9,42 +9,44 @@ use borrow.Author.Tests.{eq-eqb, ne-eqb, eqb-true}
 use Rattle.codes.specs.Number.{numberAt}
 use Rattle.drive.specs.Faults.{properFaults}
 use Rattle.catalogue.specs.Table.{rows}
-use Rattle.part.specs.Layout.{stateAt, partSize}
+use Rattle.versions.specs.Fit.{versionsFit}
+use Rattle.part.specs.Layout.{stateAt, partSize, versions}
 use Rattle.part.specs.Record.{faultsOf}
-use Rattle.part.specs.WellFormed.{isState, everyRow, limitsFit, fixedFit, waitingFits, unusedFit, wellFormed}
+use Rattle.catalogue.specs.Element.{everyRow}
+use Rattle.part.specs.WellFormed.{isState, limitsFit, fixedFit, waitingFits, unusedFit, wellFormed}
 
-abbrev all : Bool → Bool → Bool → Bool → Bool → Bool → Bool → Bool
-all size state limits fixed faults waits unused = size && state && limits && fixed && faults && waits && unused
+abbrev all : Bool → Bool → Bool → Bool → Bool → Bool → Bool → Bool → Bool
+all size state limits fixed faults waits unused kept = size && state && limits && fixed && faults && waits && unused && kept
 
 -- the first test that fails decides
-module _ (size state limits fixed faults waits unused : Bool) where
-  first-fails : size ≡ false → false ≡ all size state limits fixed faults waits unused
+module _ (size state limits fixed faults waits unused kept : Bool) where
+  first-fails : size ≡ false → false ≡ all size state limits fixed faults waits unused kept
   first-fails e = rw e
 
   module _ (e₁ : size ≡ true) where
-    second-fails : state ≡ false → false ≡ all size state limits fixed faults waits unused
+    second-fails : state ≡ false → false ≡ all size state limits fixed faults waits unused kept
     second-fails e = rw (e₁, e)
 
     module _ (e₂ : state ≡ true) (rows-fit : Bool) (e₃ : (limits && fixed) ≡ rows-fit) where
-      others : (rows-fit && faults && waits && unused) ≡ all size state limits fixed faults waits unused
-      others = rw (e₁, e₂) (ap (λ (r : Bool). r && faults && waits && unused) (sym e₃))
+      others : (rows-fit && faults && waits && unused && kept) ≡ all size state limits fixed faults waits unused kept
+      others = rw (e₁, e₂) (ap (λ (r : Bool). r && faults && waits && unused && kept) (sym e₃))
 
 module _ (axis : ℕ) (p : List ℕ) where
   pub wrong-size : (length p ≡ partSize → ⊥) → false ≡ wellFormed axis p
   unfolding wellFormed
-  wrong-size n = first-fails (eqb (length p) partSize) _ _ _ _ _ _ (ne-eqb (length p) partSize n)
+  wrong-size n = first-fails (eqb (length p) partSize) _ _ _ _ _ _ _ (ne-eqb (length p) partSize n)
 
   module _ (size : length p ≡ partSize) where
     pub no-state : isState (numberAt 1 p stateAt) ≡ false → false ≡ wellFormed axis p
     unfolding wellFormed
-    no-state e = second-fails (eqb (length p) partSize) (isState (numberAt 1 p stateAt)) _ _ _ _ _ (eq-eqb (length p) partSize size) e
+    no-state e = second-fails (eqb (length p) partSize) (isState (numberAt 1 p stateAt)) _ _ _ _ _ _ (eq-eqb (length p) partSize size) e
 
     module _ (state : isState (numberAt 1 p stateAt) ≡ true) where
       pub after-state : (rows-fit : Bool) → rows-fit ≡ (everyRow (limitsFit p) rows && everyRow (fixedFit p) rows)
-          → (rows-fit && properFaults (faultsOf p) && waitingFits axis p && unusedFit p) ≡ wellFormed axis p
+          → (rows-fit && properFaults (faultsOf p) && waitingFits axis p && unusedFit p && versionsFit (versions p)) ≡ wellFormed axis p
       unfolding wellFormed
       after-state rows-fit e =
-          others (eqb (length p) partSize) (isState (numberAt 1 p stateAt)) (everyRow (limitsFit p) rows) (everyRow (fixedFit p) rows) (properFaults (faultsOf p)) (waitingFits axis p) (unusedFit p)
+          others (eqb (length p) partSize) (isState (numberAt 1 p stateAt)) (everyRow (limitsFit p) rows) (everyRow (fixedFit p) rows) (properFaults (faultsOf p)) (waitingFits axis p) (unusedFit p) (versionsFit (versions p))
           (eq-eqb (length p) partSize size) state rows-fit (sym e)
 
 -- what is known of a well-formed part
@@ -56,6 +58,7 @@ pub record Form (axis : ℕ) (p : List ℕ) : Type 0 where
   pub faults : properFaults (faultsOf p) ≡ true
   pub waits : waitingFits axis p ≡ true
   pub unused : unusedFit p ≡ true
+  pub kept : versionsFit (versions p) ≡ true
 
 both : (a b : Bool) → (a && b) ≡ true → (a ≡ true) × (b ≡ true)
 both a b = and-eq-true-iff a b .0
@@ -64,7 +67,8 @@ module _ (axis : ℕ) (p : List ℕ) where
   pub form-of : wellFormed axis p ≡ true → Form axis p
   unfolding wellFormed
   form-of e =
-      let g = both _ (unusedFit p) e in
+      let h = both _ (versionsFit (versions p)) e in
+      let g = both _ (unusedFit p) (h .0) in
       let f = both _ (waitingFits axis p) (g .0) in
       let d = both _ (properFaults (faultsOf p)) (f .0) in
       let c = both _ (everyRow (fixedFit p) rows) (d .0) in
@@ -78,11 +82,12 @@ module _ (axis : ℕ) (p : List ℕ) where
         faults = d .1;
         waits = f .1;
         unused = g .1;
+        kept = h .1;
       }
 
   pub form-is : Form axis p → wellFormed axis p ≡ true
   unfolding wellFormed
-  form-is f = together (eqb (length p) partSize) _ _ _ _ _ _ (eq-eqb (length p) partSize (f .size)) (f .state) (f .limits) (f .fixed) (f .faults) (f .waits) (f .unused)
+  form-is f = together (eqb (length p) partSize) _ _ _ _ _ _ _ (eq-eqb (length p) partSize (f .size)) (f .state) (f .limits) (f .fixed) (f .faults) (f .waits) (f .unused) (f .kept)
     where
-      together : (a b c d e g h : Bool) → a ≡ true → b ≡ true → c ≡ true → d ≡ true → e ≡ true → g ≡ true → h ≡ true → all a b c d e g h ≡ true
-      together a b c d e g h ea eb ec ed ee eg eh = rw (ea, eb, ec, ed, ee, eg, eh)
+      together : (a b c d e g h k : Bool) → a ≡ true → b ≡ true → c ≡ true → d ≡ true → e ≡ true → g ≡ true → h ≡ true → k ≡ true → all a b c d e g h k ≡ true
+      together a b c d e g h k ea eb ec ed ee eg eh ek = rw (ea, eb, ec, ed, ee, eg, eh, ek)

@@ -21,10 +21,10 @@ use Rattle.drive.specs.Motion.{motionOf}
 use Rattle.catalogue.specs.Table.{rows, findOf, offsetOf, parameterBytes}
 use Rattle.catalogue.specs.declared.Row.{Row}
 use Rattle.catalogue.specs.declared.Found.the-variants.{At}
-use Rattle.catalogue.specs.Element.{elementOf}
+use Rattle.catalogue.specs.Element.{elementOf, everyRow}
 use Rattle.part.specs.Layout.{stateAt, effectiveAt, lengthAt, partSize}
 use Rattle.part.specs.Record.{numberOf, stateOf, wordsAt, faultsOf, driveOf, putDrive}
-use Rattle.part.specs.WellFormed.{everyRow, limitsFit, fixedFit}
+use Rattle.part.specs.WellFormed.{limitsFit, fixedFit}
 use Rattle.part.proofs.Kept.{row-passes, row-safe, tested-safe, element-same, limits-same, fixed-same}
 use Rattle.part.proofs.Waiting.{byte-written}
 use Rattle.part.proofs.Words.{Words, words-put}

@@ -10,7 +10,7 @@ use Rattle.codes.specs.Code.{word}
 use Rattle.codes.specs.Number.{put}
 use Rattle.codes.proofs.Put.{put-too-long, put-append}
 use Rattle.blocks.specs.Block.{blockLimit}
-use Rattle.part.specs.Layout.{lengthAt, responseAt, partSize, withResponse}
+use Rattle.part.specs.Layout.{lengthAt, responseAt, versionsAt, withResponse}
 
 -- a byte, written as a number of one byte
 pub byte-written : (x : ℕ) → x < 256 → word 1 .write x ≡ x ∷ []
@@ -40,7 +40,7 @@ module _ (p bytes : List ℕ) (n m : ℕ) (long : length bytes ≡ blockLimit) (
   length-told = rw count (ap (put p lengthAt) (byte-written m (omega arith)))
 
   -- in memory that is too short the bytes are not put
-  pub response-unput : length told < partSize → told ≡ withResponse (take n bytes) p
+  pub response-unput : length told < versionsAt → told ≡ withResponse (take n bytes) p
   unfolding withResponse
   response-unput h =
       let bs = take n bytes in
@@ -48,7 +48,7 @@ module _ (p bytes : List ℕ) (n m : ℕ) (long : length bytes ≡ blockLimit) (
       ∙ sym (put-too-long _ responseAt (bs ++ replicate (blockLimit - length bs) 0)
       (omega (arith, ap length length-told, filled-length bs (omega (arith, count)))))
 
-  pub response-put : partSize ≤ length told → put (put told responseAt (take m bytes)) (responseAt + m) (replicate (blockLimit - m) 0) ≡ withResponse (take n bytes) p
+  pub response-put : versionsAt ≤ length told → put (put told responseAt (take m bytes)) (responseAt + m) (replicate (blockLimit - m) 0) ≡ withResponse (take n bytes) p
   unfolding withResponse
   response-put h =
       let bs = take n bytes in

@@ -6,14 +6,14 @@ use Prim.Native.Nat.{ℕ, _+_, _-_, _≤_, _<_}
 use native.Mathlib.Omega.{arith}
 use lib.Dec.{eqb, leb}
 use lib.ListN.{length, take, drop, length-take, length-drop, drop-of-length-le}
-use lib.Seq.{take-take, take-all, drop-drop}
+use lib.Seq.{take-take, take-add, length-take-le, drop-at, drop-drop}
 use borrow.Author.Tests.{eq-eqb, ne-eqb, le-leb, lt-leb}
 use Rattle.codes.specs.Code.{readable}
 use Rattle.blocks.specs.Block.{blockLimit}
 use Rattle.blocks.specs.Response.{response}
 use Rattle.blocks.specs.Place.{headerOf}
 use Rattle.drive.specs.Faults.{zeros}
-use Rattle.part.specs.Layout.{responseAt, partSize, waitingLength, responseRoom, waiting}
+use Rattle.part.specs.Layout.{responseAt, versionsAt, partSize, waitingLength, responseRoom, waiting}
 use Rattle.part.specs.WellFormed.{waitingFits, unusedFit}
 
 -- the four tests of a waiting response
@@ -56,10 +56,18 @@ module _ (p : List ℕ) (n : ℕ) (e : n ≡ waitingLength p) where
   unfolding unusedFit
   unused-none h = rw (← e) (sym (ap zeros (drop-of-length-le (responseRoom p) {i = n} (omega (arith, length-take blockLimit (drop responseAt p))))))
 
-  pub unused-is : length p ≡ partSize → (start : ℕ) → start ≡ responseAt + n → zeros (take (length p - start) (drop start p)) ≡ unusedFit p
+  pub unused-is : length p ≡ partSize → n ≤ blockLimit → (start : ℕ) → start ≡ responseAt + n → zeros (take (versionsAt - start) (drop start p)) ≡ unusedFit p
   unfolding unusedFit
-  unused-is long start f =
-      ap zeros (take-all (length p - start) (drop start p) (omega (arith, length-drop start p)))
-      ∙ (ap (λ (k : ℕ). zeros (drop k p)) f
+  unused-is long short start f =
+      let room = drop responseAt p in
+      let left : versionsAt - start ≡ blockLimit - n = omega arith in
+      let all : blockLimit ≡ n + (blockLimit - n) = omega arith in
+      let behind : drop n (responseRoom p) ≡ take (blockLimit - n) (drop n room) =
+      ap (λ (k : ℕ). drop n (take k room)) all
+      ∙ (ap (drop n) (take-add n (blockLimit - n) room)
+      ∙ drop-at (take n room) (take (blockLimit - n) (drop n room)) n (length-take-le n room (omega (arith, length-drop responseAt p)))) in
+      ap zeros
+      (ap (λ (k : ℕ). take k (drop start p)) left
+      ∙ (ap (λ (k : ℕ). take (blockLimit - n) (drop k p)) f
+      ∙ (ap (take (blockLimit - n)) (sym (drop-drop n responseAt p)) ∙ sym behind)))
       ∙ rw (← e)
-      (ap zeros (sym (drop-drop n responseAt p) ∙ ap (drop n) (sym (take-all blockLimit (drop responseAt p) (omega (arith, length-drop responseAt p)))))))

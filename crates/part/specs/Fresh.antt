@@ -1,4 +1,5 @@
--- Document 01, "Each axis starts in S1 with all fault situations empty" and the table's fresh values.
+-- Document 01, "Each axis starts in S1 with all fault situations empty" and the table's fresh values; document 02, R-7: no version is kept,
+-- and a slot that is not in use holds the fresh settings.
 use mathlib.Core.Bool.{cond}
 use mathlib.Core.List.{List, [], _∷_}
 use Prim.Native.Nat.{ℕ, zero, suc}
@@ -9,7 +10,8 @@ use Rattle.drive.specs.declared.states.State.the-variants.{S1}
 use Rattle.catalogue.specs.declared.Row.{Row}
 use Rattle.catalogue.specs.Table.{rows}
 use Rattle.catalogue.specs.Element.{putElement, freshOf}
-use Rattle.part.specs.Layout.{stateAt, partSize}
+use Rattle.versions.specs.Keep.{filledWithin}
+use Rattle.part.specs.Layout.{stateAt, versionsAt, partSize}
 use Rattle.part.specs.Record.{numberOf}
 
 -- the first n elements of a row at their fresh values
@@ -21,9 +23,12 @@ abbrev pub freshRows : List Row → List ℕ → List ℕ
 freshRows [] p = p
 freshRows (r ∷ rs) p = freshRows rs (freshElements r (r .count) p)
 
--- every byte 0 but for the table's fresh values and the state
+-- every byte 0 but for the table's fresh values and the state, and then the slots
+unfoldable pub freshFront : List ℕ
+freshFront = freshRows rows (put (replicate partSize 0) stateAt (numberOf S1 ∷ []))
+
 unfoldable pub freshPart : List ℕ
-freshPart = freshRows rows (put (replicate partSize 0) stateAt (numberOf S1 ∷ []))
+freshPart = filledWithin versionsAt freshFront
 
 -- memory of another size is left as it is
 unfoldable pub freshOver : List ℕ → List ℕ

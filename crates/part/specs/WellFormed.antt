@@ -1,9 +1,10 @@
 -- Document 01, "A part is well-formed exactly when": one definition for each part of the rule, in its order. The part on fault
--- situations, "no code stands after a 0 or twice", is `properFaults` in drive's `Faults`. "Its other fields may hold anything of their
+-- situations, "no code stands after a 0 or twice", is `properFaults` in drive's `Faults`; that on the versions, document 02, R-7, "number 2
+-- also tests that they lie inside the limits", is `versionsFit` in the `Fit` of versions. "Its other fields may hold anything of their
 -- type": nothing else is asked.
 use mathlib.Core.Bool.{Bool, true, cond, _&&_, _||_}
-use mathlib.Core.List.{List, [], _∷_, map}
-use Prim.Native.Nat.{ℕ, zero, suc}
+use mathlib.Core.List.{List, map}
+use Prim.Native.Nat.{ℕ}
 use lib.Dec.{eqb, leb}
 use lib.ListN.{length, drop}
 use Rattle.codes.specs.Code.{readable}
@@ -14,22 +15,14 @@ use Rattle.blocks.specs.Place.{headerOf}
 use Rattle.drive.specs.Faults.{isIn, zeros, properFaults}
 use Rattle.catalogue.specs.declared.Row.{Row}
 use Rattle.catalogue.specs.Table.{rows}
-use Rattle.catalogue.specs.Element.{inside, elementOf, freshOf}
-use Rattle.part.specs.Layout.{stateAt, partSize, waitingLength, responseRoom, waiting}
+use Rattle.catalogue.specs.Element.{inside, elementOf, freshOf, everyElement, everyRow}
+use Rattle.versions.specs.Fit.{versionsFit}
+use Rattle.part.specs.Layout.{stateAt, partSize, waitingLength, responseRoom, waiting, versions}
 use Rattle.part.specs.Record.{states, numberOf, faultsOf}
 
 -- "its state is one of the six"
 abbrev pub isState : ℕ → Bool
 isState n = isIn n (map numberOf states)
-
--- a test of the first n elements of a row
-abbrev pub everyElement : (ℕ → Bool) → ℕ → Bool
-everyElement ok zero = true
-everyElement ok (suc n) = everyElement ok n && ok n
-
-abbrev pub everyRow : (Row → Bool) → List Row → Bool
-everyRow ok [] = true
-everyRow ok (r ∷ rs) = ok r && everyRow ok rs
 
 -- "writable elements are inside their limits"
 unfoldable pub limitsFit : List ℕ → Row → Bool
@@ -59,3 +52,4 @@ wellFormed axis p =
     && properFaults (faultsOf p)
     && waitingFits axis p
     && unusedFit p
+    && versionsFit (versions p)

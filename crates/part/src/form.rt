@@ -7,7 +7,8 @@ ghost use Rattle.drive.specs.Faults.{situationCodes, isIn, zeros, proper, prope
 ghost use Rattle.catalogue.specs.Table.{rows};
 ghost use Rattle.part.specs.Layout.{partSize};
 ghost use Rattle.part.specs.Record.{wordsAt, faultsOf};
-ghost use Rattle.part.specs.WellFormed.{isState, everyRow, limitsFit, fixedFit, waitingFits, unusedFit, wellFormed};
+ghost use Rattle.catalogue.specs.Element.{everyRow};
+ghost use Rattle.part.specs.WellFormed.{isState, limitsFit, fixedFit, waitingFits, unusedFit, wellFormed};
 use catalogue::Row;
 
 fn is_state(n: u8) -> bool
@@ -244,13 +245,13 @@ fn unused_fits(part: &[u8]) -> bool
     let n = codes::wide(super::waiting_length(part));
     // Mostly none waits, and where they start is then known when this is compiled.
     if n == 0 {
-        return super::runs::is_clear(&part[super::RESPONSE..]);
+        return super::runs::is_clear(&part[super::RESPONSE..super::VERSIONS]);
     }
     if blocks::BLOCK_LIMIT < n {
         return true;
     }
     let start = super::RESPONSE + n;
-    super::runs::is_clear(&part[start..])
+    super::runs::is_clear(&part[start..super::VERSIONS])
 }
 
 // Whether the part of an axis is well-formed.
@@ -272,5 +273,8 @@ pub fn well_formed(part: &[u8], axis: u8) -> bool
     if !waiting_fits(part, axis) {
         return false;
     }
-    unused_fits(part)
+    if !unused_fits(part) {
+        return false;
+    }
+    versions::fit(&part[super::VERSIONS..])
 }

@@ -31,7 +31,7 @@ pub fn put_response(part: &mut [u8], bytes: [u8; blocks::BLOCK_LIMIT], n: u8)
 {
     let m = limited(n);
     codes::put_number(part, super::LENGTH, 1, m as u32);
-    if part.len() < super::SIZE {
+    if part.len() < super::VERSIONS {
         return;
     }
     codes::put_bytes(part, super::RESPONSE, &bytes[..m]);

@@ -1,4 +1,4 @@
-// A fresh part: every byte 0 but for the state and the fresh values of the table.
+// A fresh part: every byte 0 but for the state, the fresh values of the table, and the slots of the versions, which hold these too.
 ghost use mathlib.Core.Path.{_≡_};
 ghost use Rattle.catalogue.specs.Table.{rows};
 ghost use Rattle.part.specs.Fresh.{freshElements, freshRows, freshOver};
@@ -35,4 +35,5 @@ pub fn fresh(part: &mut [u8])
     super::runs::clear_bytes(part, 0, super::SIZE);
     codes::put_number(part, super::STATE, 1, super::number_of(State::S1) as u32);
     fresh_rows(part);
+    versions::fill_within(part, super::VERSIONS);
 }

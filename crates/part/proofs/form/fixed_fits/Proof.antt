@@ -1,9 +1,10 @@
 -- The first i elements are as fresh.
-use Rattle.part.proofs.Every.{unasked, asked-unfit, asked-fit, every-next}
+use Rattle.catalogue.proofs.Every.{every-next}
+use Rattle.part.proofs.Every.{unasked, asked-unfit, asked-fit}
 use mathlib.Core.Bool.{_||_, true, false}
 use borrow.Author.Tests.{eq-eqb, ne-eqb, not-true, not-false}
-use Rattle.part.specs.WellFormed.{everyElement, fixedFit}
-use Rattle.catalogue.specs.Element.{elementOf, freshOf}
+use Rattle.part.specs.WellFormed.{fixedFit}
+use Rattle.catalogue.specs.Element.{elementOf, freshOf, everyElement}
 use lib.Dec.{eqb}
 use denote.Ref.{now}
 use Prim.Native.Nat.{ℕ, _-_, _≤_}

@@ -1,7 +1,8 @@
 -- The first i elements are inside.
-use Rattle.part.proofs.Every.{every-next, unasked, asked-unfit, asked-fit}
-use Rattle.part.specs.WellFormed.{everyElement, limitsFit}
-use Rattle.catalogue.specs.Element.{inside, elementOf}
+use Rattle.catalogue.proofs.Every.{every-next}
+use Rattle.part.proofs.Every.{unasked, asked-unfit, asked-fit}
+use Rattle.part.specs.WellFormed.{limitsFit}
+use Rattle.catalogue.specs.Element.{inside, elementOf, everyElement}
 use borrow.Author.Tests.{not-true, not-false}
 use denote.Ref.{now}
 use mathlib.Core.Bool.{true, false}

@@ -1,5 +1,6 @@
 -- Limits first; where they do not fit, nothing else is looked at.
-use Rattle.part.specs.WellFormed.{everyRow, fixedFit}
+use Rattle.catalogue.specs.Element.{everyRow}
+use Rattle.part.specs.WellFormed.{fixedFit}
 use Rattle.catalogue.specs.Table.{rows}
 use denote.Ref.{now}
 use mathlib.Core.Bool.{Bool, _&&_}
