@@ -7,7 +7,7 @@ use mathlib.Core.Logic.{_⊎_, inl, inr}
 use Prim.Native.Nat.{ℕ, _+_, _-_, _≤_, _<_}
 use native.Mathlib.Omega.{arith}
 use lib.Dec.{eqb, lit≤, lit<}
-use lib.ListN.{length, getD}
+use lib.ListN.{length, getD, take, drop}
 use Rattle.codes.specs.Code.{AllOf}
 use Rattle.blocks.specs.Block.{Block, formatSize, valueSize, changeBlockFits}
 use Rattle.blocks.specs.Request.{Request, requestBlocks}
@@ -17,9 +17,10 @@ use Rattle.blocks.specs.declared.reader.Address.{Address}
 use Rattle.catalogue.specs.declared.Row.{Row}
 use Rattle.catalogue.specs.declared.Found.{Found}
 use Rattle.catalogue.specs.declared.Found.the-variants.{At, Nothing}
-use Rattle.catalogue.specs.Table.{rows, findOf}
+use Rattle.catalogue.specs.Table.{rows, parameterBytes, findOf}
 use Rattle.catalogue.specs.Element.{inside, elementOf}
-use Rattle.part.specs.Layout.{partSize}
+use Rattle.versions.specs.Keep.{taken}
+use Rattle.part.specs.Layout.{versionsAt, partSize, versions}
 use Rattle.access.specs.declared.Checked.{Checked}
 use Rattle.access.specs.declared.Checked.the-variants.{Elements, Error}
 use Rattle.access.specs.Address.{checked, errorBlock, emptyBlock}
@@ -28,7 +29,7 @@ use Rattle.access.specs.Change.{Changed, changeOne, changeAll}
 use Rattle.access.specs.Work.{worked}
 use Rattle.access.specs.Laws.{blocksOf, Names, StoredBy, Stored, Storable, Allowed}
 use Rattle.access.proofs.Answers.{answers-header, one-each, answers-blocks, answers-identifier, failure-answered}
-use Rattle.access.proofs.Keeps.{read-keeps, only-stored-changes}
+use Rattle.access.proofs.Keeps.{read-keeps, only-stored-changes, versions-follow}
 use Rattle.access.proofs.There.{answers-each, stored-is-there, whole-or-none, answered-exactly, counts-stored, read-is-there}
 
 -- for changes: level marks 1 and 2, at their limits, and 9900
@@ -60,6 +61,10 @@ setTwo = change (marks ∷ user ∷ marks ∷ []) (levels ∷ number ∷ tooHigh
 
 setOne : Request
 setOne = change (marks ∷ user ∷ []) (tooHigh ∷ number ∷ [])
+
+-- nothing is stored
+setNone : Request
+setNone = change (marks ∷ []) (tooHigh ∷ [])
 
 -- a read of a parameter that there is not
 nowhere : Address
@@ -196,6 +201,21 @@ module _ (p : List ℕ) where
   unfolding setTwo marks levels user number tooHigh changeOne checked findOf rows inside
   counted-two = counts-stored setTwo p refl
 
+  counted-none : worked setNone p .stored ≡ 0
+  unfolding setNone marks tooHigh changeOne checked findOf rows inside
+  counted-none = counts-stored setNone p refl
+
+  -- VersionsFollow: a version of all that was stored, and none of nothing or of a read
+  module _ (size : length p ≡ partSize) where
+    version-of : versions (worked setThree p .part) ≡ taken (worked setThree p .part) (versions p)
+    version-of = rw counted at (versions-follow setThree p size)
+
+    version-of-none : versions (worked setNone p .part) ≡ versions p
+    version-of-none = rw counted-none at (versions-follow setNone p size)
+
+    version-of-read : versions (worked readNothing p .part) ≡ versions p
+    version-of-read = rw (untouched .1) at (versions-follow readNothing p size)
+
   -- WholeOrNone
   whole : isError (changeOne marks levels p .block) ≡ false → changeOne marks levels p .stored ≡ 2
   unfolding levels
@@ -229,7 +249,10 @@ module _ (p : List ℕ) where
         level = refl;
       })
 
--- OnlyStoredChanges: no element but 9900, and so no mark
+-- OnlyStoredChanges: the bytes between the parameters and the versions, and no element but 9900, and so no mark
+between-kept : (p : List ℕ) → take (versionsAt - parameterBytes) (drop parameterBytes (worked setOne p .part)) ≡ take (versionsAt - parameterBytes) (drop parameterBytes p)
+between-kept p = only-stored-changes setOne p one-fits .others
+
 howMany : Checked → ℕ
 howMany (Elements r n) = n
 howMany (Error e) = 0

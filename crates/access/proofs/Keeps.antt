@@ -1,15 +1,17 @@
--- What is kept of a part that a request is worked on: all but the elements that it stores, their limits, and that it is well-formed.
+-- What is kept of a part that a request is worked on: all but the elements that it stores and the versions by these, their limits, and
+-- that it is well-formed.
 use mathlib.Core.Path.{_≡_, refl, sym, ap, _∙_}
 use mathlib.Core.Bool.{Bool, true, false, cond, not, _&&_, _||_, true≢false, and-eq-true-iff}
-use mathlib.Core.List.{List, [], _∷_, List·Memᴰ, List·Memᴰ·head, List·Memᴰ·tail}
+use mathlib.Core.List.{List, [], _∷_, _++_, List·Memᴰ, List·Memᴰ·head, List·Memᴰ·tail}
 use mathlib.Core.Logic.{_⊎_, inl, inr}
 use Prim.Native.Nat.{ℕ, zero, suc, _+_, _-_, _^_, _≤_, _<_}
 use native.Mathlib.Decide.{decLe}
 use native.Mathlib.Omega.{arith}
 use lib.Dec.{eqb}
-use lib.ListN.{length, drop}
-use lib.Seq.{drop-drop}
-use borrow.Author.Tests.{eqb-true, not-true}
+use lib.ListN.{length, take, drop, length-take}
+use lib.Seq.{drop-drop, drop-at, take-add}
+use borrow.Author.Tests.{eqb-true, not-true, not-false}
+use borrow.Table.Steps.{cases}
 use Rattle.codes.specs.Code.{Got, got, bad, AllOf, readable}
 use Rattle.codes.specs.Number.{numberAt}
 use Rattle.codes.proofs.Number.{numbers-same}
@@ -24,17 +26,21 @@ use Rattle.drive.specs.Faults.{situations, bufferCodes, allProper}
 use Rattle.catalogue.specs.declared.Row.{Row}
 use Rattle.catalogue.specs.declared.Found.the-variants.{At}
 use Rattle.catalogue.specs.Table.{rows, parameterBytes, findOf, offsetOf, elementSize}
-use Rattle.catalogue.specs.Element.{elementPlace, inside, elementOf, putElement, freshOf}
+use Rattle.catalogue.specs.Element.{elementPlace, inside, elementOf, putElement, freshOf, everyElement, everyRow}
 use Rattle.catalogue.proofs.Elements.{element-length, element-stored, element-unstored}
 use Rattle.catalogue.proofs.Rows.{found-row, every-row, element-elsewhere, element-rest}
-use Rattle.part.specs.Layout.{stateAt, lengthAt, responseAt, partSize, withResponse}
+use Rattle.versions.specs.Keep.{taken}
+use Rattle.versions.specs.Fit.{versionsFit}
+use Rattle.part.specs.Layout.{stateAt, lengthAt, responseAt, versionsAt, partSize, withResponse, versions, withVersion}
 use Rattle.part.specs.Record.{wordsAt}
-use Rattle.part.specs.WellFormed.{isState, everyElement, everyRow, limitsFit, fixedFit, waitingFits, unusedFit, wellFormed}
+use Rattle.part.specs.WellFormed.{isState, limitsFit, fixedFit, waitingFits, unusedFit, wellFormed}
 use Rattle.part.proofs.Laws.{response-well-formed}
-use Rattle.access.specs.Change.{storeFrom, success, changeOne, changeAll}
-use Rattle.access.specs.Work.{Worked, worked, Outcome, takenIf, outcomeOf}
-use Rattle.access.specs.Laws.{ReadKeeps, StoredBy, Stored, Storable, Allowed, Kept, OnlyStoredChanges, RequestKeepsWellFormed, BlockKeepsWellFormed}
+use Rattle.part.proofs.Versions.{front-element, front-taken, version-length, version-front, version-taken, version-well-formed}
+use Rattle.access.specs.Change.{storeFrom, success, changeOne, ChangedAll, changeAll}
+use Rattle.access.specs.Work.{Worked, versioned, worked, Outcome, exhausts, admittedIf, outcomeOf}
+use Rattle.access.specs.Laws.{ReadKeeps, StoredBy, Stored, Storable, Allowed, between, Kept, OnlyStoredChanges, VersionsFollow, RequestKeepsWellFormed, BlockKeepsWellFormed}
 use Rattle.access.proofs.Checks.{pick, Named}
+use Rattle.access.proofs.Lengths.{change-length}
 use Rattle.access.proofs.Answers.{change-cases, storable-small, answer-readable, answer-axis}
 
 pub read-keeps : ReadKeeps
@@ -44,13 +50,13 @@ read-keeps r p e = rw e (refl, refl)
 -- What is kept by two steps, one after the other, and by a step that may change less.
 module _ {May : Row → ℕ → Type 0} where
   kept-none : (p : List ℕ) → Kept May p p
-  kept-none p = record { size = refl; beyond = refl; elements = λ q m j h. inl refl }
+  kept-none p = record { size = refl; others = refl; elements = λ q m j h. inl refl }
 
-  kept-then : {p s t : List ℕ} → Kept May p s → Kept May s t → Kept May p t
+  pub kept-then : {p s t : List ℕ} → Kept May p s → Kept May s t → Kept May p t
   kept-then {p} {s} {t} first second =
       record {
         size = second .size ∙ first .size;
-        beyond = second .beyond ∙ first .beyond;
+        others = second .others ∙ first .others;
         elements = λ q m j h. go q j (first .elements q m j h) (second .elements q m j h);
       }
     where
@@ -61,11 +67,34 @@ module _ {May : Row → ℕ → Type 0} where
 
   kept-more : {Might : Row → ℕ → Type 0} {p s : List ℕ} → ((q : Row) (j : ℕ) → May q j → Might q j) → Kept May p s → Kept Might p s
   kept-more {Might} {p} {s} more k =
-      record { size = k .size; beyond = k .beyond; elements = λ q m j h. go q j (k .elements q m j h) }
+      record { size = k .size; others = k .others; elements = λ q m j h. go q j (k .elements q m j h) }
     where
       go : (q : Row) (j : ℕ) → Allowed May p s q j → Allowed Might p s q j
       go q j (inl e) = inl e
       go q j (inr n) = inr (more q j (n .0), n .1)
+
+  -- a version that is taken, or none
+  pub kept-versioned : (n : ℕ) (p : List ℕ) → Kept May p (versioned n p)
+  kept-versioned n p =
+      pick (Kept May p) (eqb n 0) (λ t. kept-none p)
+      (λ t.
+      record {
+        size = version-length p;
+        others = between-kept;
+        elements = λ q m j h. inl (front-element p (withVersion p) (version-front p) q m j h);
+      })
+    where
+      front : take parameterBytes (withVersion p) ++ between (withVersion p) ≡ take parameterBytes p ++ between p
+      front =
+          let e : parameterBytes + (versionsAt - parameterBytes) ≡ versionsAt = omega arith in
+          sym (take-add parameterBytes (versionsAt - parameterBytes) (withVersion p))
+          ∙ (rw e (version-front p) ∙ take-add parameterBytes (versionsAt - parameterBytes) p)
+
+      between-kept : between (withVersion p) ≡ between p
+      between-kept =
+          let k = length (take parameterBytes p) in
+          let e : length (take parameterBytes (withVersion p)) ≡ k = length-take parameterBytes (withVersion p) ∙ rw (version-length p) (sym (length-take parameterBytes p)) in
+          sym (drop-at (take parameterBytes (withVersion p)) (between (withVersion p)) k e) ∙ (ap (drop k) front ∙ drop-at (take parameterBytes p) (between p) k refl)
 
 -- n elements of a row, from element i on
 abbrev pub Among : Row → ℕ → ℕ → Row → ℕ → Type 0
@@ -77,7 +106,7 @@ module _ (r : Row) (m : List·Memᴰ r rows) where
   element-kept i x p k ok small =
       record {
         size = element-length r i x p;
-        beyond = element-rest r m i k x p;
+        others = ap (take (versionsAt - parameterBytes)) (element-rest r m i k x p);
         elements = λ q n j h. go q j (decLe (elementPlace r i + elementSize (r .kind)) (length p)) (element-elsewhere q r n m j i h k x p);
       }
     where
@@ -128,7 +157,40 @@ unfolding worked
 only-stored-changes r p f =
     pick (λ (w : Worked). Kept (Writes (Stored (r .addresses) (r .blocks) p)) p (w .part)) (eqb (r .identifier) 1)
     (λ e. kept-none p)
-    (λ e. all-kept (r .addresses) (r .blocks) p (f .blocks))
+    (λ e. kept-then (all-kept (r .addresses) (r .blocks) p (f .blocks)) (kept-versioned (changeAll (r .addresses) (r .blocks) p .stored) _))
+
+-- no byte beyond the parameters is touched before a version is taken
+store-beyond : (r : Row) → List·Memᴰ r rows → (i : ℕ) (xs p : List ℕ) → i + length xs ≤ r .count → drop parameterBytes (storeFrom r i xs p) ≡ drop parameterBytes p
+store-beyond r m i [] p room = refl
+store-beyond r m i (x ∷ xs) p room = store-beyond r m (i + 1) xs (putElement r i x p) (omega arith) ∙ element-rest r m i (omega arith) x p
+
+all-beyond : (them : List Address) (sent : List Block) (p : List ℕ) → drop parameterBytes (changeAll them sent p .part) ≡ drop parameterBytes p
+all-beyond [] sent p = refl
+all-beyond (a ∷ more) [] p = refl
+all-beyond (a ∷ more) (b ∷ sent) p =
+    all-beyond more sent (changeOne a b p .part)
+    ∙ change-cases a b p (λ c. drop parameterBytes (c .part) ≡ drop parameterBytes p) (λ e small. refl)
+    (λ s named. store-beyond (s .row) (named .row) (a .subindex) (b .values) p (omega (arith, s .count, named .room)))
+
+beyond-from : (p after : List ℕ) → drop parameterBytes after ≡ drop parameterBytes p → (n : ℕ) → parameterBytes ≤ n → drop n after ≡ drop n p
+beyond-from p after beyond n h =
+    let e : n ≡ parameterBytes + (n - parameterBytes) = omega arith in
+    rw e (sym (drop-drop (n - parameterBytes) parameterBytes after) ∙ (ap (drop (n - parameterBytes)) beyond ∙ drop-drop (n - parameterBytes) parameterBytes p))
+
+pub versions-follow : VersionsFollow
+unfolding worked
+versions-follow r p size =
+    cases (eqb (r .identifier) 1) (λ e. rw e refl)
+    (λ e. rw e
+    (cases (eqb (c .stored) 0)
+    (λ t. rw t same)
+    (λ t. rw t (version-taken (c .part) (change-length (r .addresses) (r .blocks) p ∙ size) ∙ (ap (taken (c .part)) same ∙ sym (front-taken (c .part) (withVersion (c .part)) (version-front (c .part)) (versions p)))))))
+  where
+    c : ChangedAll
+    c = changeAll (r .addresses) (r .blocks) p
+
+    same : versions (c .part) ≡ versions p
+    same = beyond-from p (c .part) (all-beyond (r .addresses) (r .blocks) p) versionsAt (omega arith)
 
 -- A well-formed part stays well-formed.
 and-map : {a b c d : Bool} → (a ≡ true → c ≡ true) → (b ≡ true → d ≡ true) → a && b ≡ true → c && d ≡ true
@@ -152,15 +214,10 @@ unfolding rows
 fixed-row q m e = not-true (q .writable) (rw e at (every-row (λ r. not (eqb (r .pnu) 930 || eqb (r .pnu) 965) || not (r .writable)) rows refl q m))
 
 -- only writable elements were changed, and what was changed is inside its limits
-module _ (May : Row → ℕ → Type 0) (writes : (q : Row) (j : ℕ) → May q j → q .writable ≡ true) (p after : List ℕ) (k : Kept May p after) where
-  drop-beyond : (n : ℕ) → parameterBytes ≤ n → drop n after ≡ drop n p
-  drop-beyond n h =
-      let e : n ≡ parameterBytes + (n - parameterBytes) = omega arith in
-      rw e (sym (drop-drop (n - parameterBytes) parameterBytes after) ∙ (ap (drop (n - parameterBytes)) (k .beyond) ∙ drop-drop (n - parameterBytes) parameterBytes p))
-
+module _ (May : Row → ℕ → Type 0) (writes : (q : Row) (j : ℕ) → May q j → q .writable ≡ true) (p after : List ℕ) (k : Kept May p after) (beyond : drop parameterBytes after ≡ drop parameterBytes p) where
   number-beyond : (w n : ℕ) → parameterBytes ≤ n → numberAt w after n ≡ numberAt w p n
   unfolding numberAt
-  number-beyond w n h = rw (drop-beyond n h)
+  number-beyond w n h = rw (beyond-from p after beyond n h)
 
   unwritten : (q : Row) → List·Memᴰ q rows → q .writable ≡ false → (j : ℕ) → j < q .count → elementOf q j after ≡ elementOf q j p
   unwritten q m shut j h = go (k .elements q m j h)
@@ -195,16 +252,17 @@ module _ (May : Row → ℕ → Type 0) (writes : (q : Row) (j : ℕ) → May q 
 
   waiting-kept : (axis : ℕ) → waitingFits axis after ≡ waitingFits axis p
   unfolding waitingFits
-  waiting-kept axis = rw (number-beyond 1 lengthAt (omega arith), drop-beyond responseAt (omega arith))
+  waiting-kept axis = rw (number-beyond 1 lengthAt (omega arith), beyond-from p after beyond responseAt (omega arith))
 
   unused-kept : unusedFit after ≡ unusedFit p
   unfolding unusedFit
-  unused-kept = rw (number-beyond 1 lengthAt (omega arith), drop-beyond responseAt (omega arith))
+  unused-kept = rw (number-beyond 1 lengthAt (omega arith), beyond-from p after beyond responseAt (omega arith))
 
   pub well-formed-kept : (axis : ℕ) → wellFormed axis p ≡ true → wellFormed axis after ≡ true
   unfolding wellFormed
   well-formed-kept axis =
       and-map
+      (and-map
       (and-map
       (and-map
       (and-map
@@ -216,13 +274,27 @@ module _ (May : Row → ℕ → Type 0) (writes : (q : Row) (j : ℕ) → May q 
       (rows-map (fixedFit p) (fixedFit after) rows fixed-kept))
       (same (ap (allProper situations) faults-kept)))
       (same (waiting-kept axis)))
-      (same unused-kept)
+      (same unused-kept))
+      (same (ap versionsFit (beyond-from p after beyond versionsAt (omega arith))))
     where
       same : {a b : Bool} → b ≡ a → a ≡ true → b ≡ true
       same e t = e ∙ t
 
 pub request-keeps-well-formed : RequestKeepsWellFormed
-request-keeps-well-formed axis r p f = well-formed-kept (Writes (Stored (r .addresses) (r .blocks) p)) (λ q j x. x .0) p (worked r p .part) (only-stored-changes r p f) axis
+unfolding worked
+request-keeps-well-formed axis r p f w =
+    pick (λ (x : Worked). wellFormed axis (x .part) ≡ true) (eqb (r .identifier) 1) (λ e. w)
+    (λ e. pick (λ (q : List ℕ). wellFormed axis q ≡ true) (eqb (c .stored) 0) (λ t. kept) (λ t. version-well-formed (c .part) axis kept))
+  where
+    c : ChangedAll
+    c = changeAll (r .addresses) (r .blocks) p
+
+    kept : wellFormed axis (c .part) ≡ true
+    kept =
+        well-formed-kept (Writes (Stored (r .addresses) (r .blocks) p)) (λ q j x. x .0) p (c .part)
+        (all-kept (r .addresses) (r .blocks) p (f .blocks))
+        (all-beyond (r .addresses) (r .blocks) p)
+        axis w
 
 -- and with the response waiting in it
 pub answer-waits : (axis : ℕ) (r : Request) (p : List ℕ) → RequestFits r → r .axis ≡ axis → wellFormed axis p ≡ true
@@ -240,11 +312,11 @@ block-keeps-well-formed axis s p w = go (request .read s) refl
     Good : Outcome → Type 0
     Good o = wellFormed axis (o .part) ≡ true
 
-    go : (g : Got Request) → request .read s ≡ g → Good (takenIf axis p (readable blockLimit request s) g)
+    go : (g : Got Request) → request .read s ≡ g → Good (admittedIf axis p (readable blockLimit request s) g)
     go (got r t) e =
         pick Good (readable blockLimit request s)
-        (λ u. pick Good (eqb (r .axis) axis)
-        (λ v. answer-waits axis r p (request-valid r .0 (request-sound .only s r t e .0)) (eqb-true (r .axis) axis v) w)
-        (λ v. w))
+        (λ u. pick Good (not (eqb (r .axis) axis)) (λ v. w)
+        (λ v. pick Good (exhausts r p) (λ x. w)
+        (λ x. answer-waits axis r p (request-valid r .0 (request-sound .only s r t e .0)) (eqb-true (r .axis) axis (not-false (eqb (r .axis) axis) v)) w)))
         (λ u. w)
     go bad e = w

@@ -14,11 +14,12 @@ use Rattle.catalogue.specs.declared.Row.{Row}
 use Rattle.catalogue.specs.Element.{sizeCode, typeCode, putElement}
 use Rattle.catalogue.proofs.Elements.{element-length}
 use Rattle.part.proofs.Laws.{response-length}
+use Rattle.part.proofs.Versions.{version-length}
 use Rattle.access.specs.declared.Checked.{Checked}
 use Rattle.access.specs.declared.Checked.the-variants.{Elements, Error}
 use Rattle.access.specs.Address.{checked}
 use Rattle.access.specs.Change.{Changed, allInside, storeFrom, ofChecked, changeOne, changeAll}
-use Rattle.access.specs.Work.{Worked, Outcome, worked, takenIf, outcomeOf}
+use Rattle.access.specs.Work.{Worked, Outcome, worked, exhausts, admittedIf, outcomeOf}
 use Rattle.access.proofs.Checks.{pick}
 
 -- a change, address by address
@@ -43,22 +44,25 @@ change-length [] bs p = refl
 change-length (a ∷ as′) [] p = refl
 change-length (a ∷ as′) (b ∷ bs) p = change-length as′ bs (changeOne a b p .part) ∙ checked-length a b p (checked a)
 
--- a request worked, and a block taken
+-- a request worked, and a block admitted
 worked-length : (r : Request) (p : List ℕ) → length (worked r p .part) ≡ length p
 unfolding worked
 worked-length r p =
-    pick (λ (w : Worked). length (w .part) ≡ length p) (eqb (r .identifier) 1) (λ t. refl) (λ t. change-length (r .addresses) (r .blocks) p)
+    let c = changeAll (r .addresses) (r .blocks) p in
+    let kept : length (c .part) ≡ length p = change-length (r .addresses) (r .blocks) p in
+    pick (λ (w : Worked). length (w .part) ≡ length p) (eqb (r .identifier) 1) (λ t. refl)
+    (λ t. pick (λ (q : List ℕ). length q ≡ length p) (eqb (c .stored) 0) (λ u. kept) (λ u. version-length (c .part) ∙ kept))
 
-taken-length : (k : ℕ) (p : List ℕ) (fits : Bool) (g : Got Request) → length (takenIf k p fits g .part) ≡ length p
-taken-length k p fits bad = refl
-taken-length k p fits (got r t) =
+admitted-length : (k : ℕ) (p : List ℕ) (fits : Bool) (g : Got Request) → length (admittedIf k p fits g .part) ≡ length p
+admitted-length k p fits bad = refl
+admitted-length k p fits (got r t) =
     let Same : Outcome → Type 0 = λ o. length (o .part) ≡ length p in
     pick Same fits
-    (λ u. pick Same (eqb (r .axis) k)
-    (λ v. response-length (response .write (worked r p .response)) (worked r p .part) ∙ worked-length r p)
-    (λ v. refl))
+    (λ u. pick Same (not (eqb (r .axis) k)) (λ v. refl)
+    (λ v. pick Same (exhausts r p) (λ x. refl)
+    (λ x. response-length (response .write (worked r p .response)) (worked r p .part) ∙ worked-length r p)))
     (λ u. refl)
 
 pub outcome-length : (k : ℕ) (s p : List ℕ) → length (outcomeOf k s p .part) ≡ length p
 unfolding outcomeOf
-outcome-length k s p = taken-length k p (readable blockLimit request s) (request .read s)
+outcome-length k s p = admitted-length k p (readable blockLimit request s) (request .read s)

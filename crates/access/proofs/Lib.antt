@@ -11,6 +11,7 @@ pub mod Failing
 pub mod Heads
 pub mod Changing
 pub mod Requested
+pub mod Apart
 pub mod Responding
 pub mod Outcomes
 pub mod Lengths

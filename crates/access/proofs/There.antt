@@ -25,13 +25,13 @@ use Rattle.access.specs.declared.Checked.the-variants.{Elements}
 use Rattle.access.specs.Address.{emptyBlock}
 use Rattle.access.specs.Read.{elementsFrom, blockSize, readBlock}
 use Rattle.access.specs.Change.{Changed, failure, allInside, storeFrom, success, changeOne, changeAll}
-use Rattle.access.specs.Work.{worked}
+use Rattle.access.specs.Work.{versioned, worked}
 use Rattle.access.specs.Laws.{Names, Stored, Storable, comesTo, storedOf, Allowed, ReadIsThere, AnswersEach, StoredIsThere, WholeOrNone, AnsweredExactly, CountsStored}
 use Rattle.access.proofs.Checks.{pick, Named}
 use Rattle.access.proofs.Lengths.{change-length}
 use Rattle.access.proofs.Failing.{three-passed}
 use Rattle.access.proofs.Answers.{OfKind, change-cases, storable-small}
-use Rattle.access.proofs.Keeps.{Among, store-kept, all-kept}
+use Rattle.access.proofs.Keeps.{kept-then, kept-versioned, Among, store-kept, all-kept}
 
 -- the values of one address: each is there
 store-there :
@@ -102,9 +102,11 @@ stored-is-there r p fits two size t q j s none =
     let next : List ℕ = comesTo r t p .part in
     let bs : AllOf (BlockFits changeBlockFits) (t .block ∷ t .laterBlocks) = all-after (BlockFits changeBlockFits) (t .earlierBlocks) _ (subst (AllOf (BlockFits changeBlockFits)) (t .blocks) (fits .blocks)) in
     let here = change-there (t .address) (t .block) (bs .0) mid (omega (arith, size, change-length (t .earlier) (t .earlierBlocks) p)) q j (s .names) (s .answered) in
-    let whole : worked r p .part ≡ changeAll (t .later) (t .laterBlocks) next .part =
-    rw (two, t .addresses, t .blocks) (change-then (t .earlier) (t .address ∷ t .later) (t .earlierBlocks) (t .block ∷ t .laterBlocks) p (t .level)) in
-    ap (elementOf q j) whole ∙ go next _ (here .1) (all-kept (t .later) (t .laterBlocks) next (bs .1) .elements q (found-row _ q (s .names .found)) j (here .0))
+    let stored : ℕ = changeAll (r .addresses) (r .blocks) p .stored in
+    let whole : changeAll (r .addresses) (r .blocks) p .part ≡ changeAll (t .later) (t .laterBlocks) next .part =
+    rw (t .addresses, t .blocks) (change-then (t .earlier) (t .address ∷ t .later) (t .earlierBlocks) (t .block ∷ t .laterBlocks) p (t .level)) in
+    let kept = kept-then (all-kept (t .later) (t .laterBlocks) next (bs .1)) (kept-versioned stored _) in
+    rw two (ap (λ (l : List ℕ). elementOf q j (versioned stored l)) whole ∙ go next _ (here .1) (kept .elements q (found-row _ q (s .names .found)) j (here .0)))
   where
     go : (mid end : List ℕ) {x : ℕ} → elementOf q j mid ≡ x → Allowed (λ q j. (q .writable ≡ true) × Stored (t .later) (t .laterBlocks) (comesTo r t p .part) q j) mid end q j → elementOf q j end ≡ x
     go mid end here (inl e) = e ∙ here

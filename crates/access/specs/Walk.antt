@@ -1,8 +1,9 @@
 -- What the steps of the code leave, said of the definitions. No contract of a public function cites this page.
 use mathlib.Core.Path.{_≡_}
-use mathlib.Core.Bool.{cond}
+use mathlib.Core.Bool.{cond, not, _&&_}
 use mathlib.Core.List.{List, []}
 use Prim.Native.Nat.{ℕ, _+_, _≤_}
+use lib.Dec.{eqb}
 use lib.ListN.{length, drop}
 use Rattle.codes.specs.Code.{readTimes, writeAll}
 use Rattle.codes.specs.Number.{valueOr, put}
@@ -11,13 +12,14 @@ use Rattle.blocks.specs.Block.{Block, changeBlockFits, block}
 use Rattle.blocks.specs.Page.{blockBytes}
 use Rattle.blocks.specs.Request.{Request, request}
 use Rattle.blocks.specs.Response.{isError, hasError, response}
-use Rattle.part.specs.Layout.{withResponse}
+use Rattle.part.specs.Layout.{withResponse, usedUp}
+use Rattle.access.specs.declared.Report.{Report}
 use Rattle.access.specs.declared.reply.Written.{Written}
 use Rattle.access.specs.declared.change.Done.{Done}
 use Rattle.access.specs.declared.change.Changes.{Changes}
 use Rattle.access.specs.Address.{errorBlock, emptyBlock}
 use Rattle.access.specs.Change.{Changed, ChangedAll}
-use Rattle.access.specs.Work.{Worked}
+use Rattle.access.specs.Work.{Worked, workedChange, Outcome, refused}
 
 -- the block b is put at a place of l, which is then m; w says where the next goes, and whether b was an error
 pub record Wrote (l m : List ℕ) (at : ℕ) (b : Block) (w : Written) : Type 0 where
@@ -62,3 +64,15 @@ requestIn s = valueOr (record { reference = 0; identifier = 0; axis = 0; address
 -- the part with the response waiting
 abbrev pub respondedPart : Worked → List ℕ
 respondedPart w = withResponse (response .write (w .response)) (w .part)
+
+-- what a change comes to, where it names the caller's axis
+abbrev pub changeOutcome : Request → List ℕ → Outcome
+changeOutcome r p =
+    let w = workedChange r p in
+    cond (usedUp p && not (eqb (w .stored) 0)) (refused 15 p) (record { number = 0; stored = w .stored; part = respondedPart w })
+
+-- a block came to o: d says so, and m is the part then
+pub record Reported (o : Outcome) (m : List ℕ) (d : Report) : Type 0 where
+  pub number : d .number ≡ o .number
+  pub stored : d .stored ≡ o .stored
+  pub part : m ≡ o .part

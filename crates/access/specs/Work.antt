@@ -1,5 +1,5 @@
--- Document 01, "Response block" and "Parameters of each axis": a readable request worked on the part of its axis.
-use mathlib.Core.Bool.{Bool, cond}
+-- Document 01, "Response block" and "Parameters of each axis", and document 02, R-7: a readable request worked on the part of its axis.
+use mathlib.Core.Bool.{Bool, false, cond, not, _&&_}
 use mathlib.Core.List.{List, []}
 use Prim.Native.Nat.{ℕ}
 use lib.Dec.{eqb}
@@ -8,7 +8,7 @@ use Rattle.codes.specs.Code.{Got, got, bad, readable}
 use Rattle.blocks.specs.Block.{Block, blockLimit}
 use Rattle.blocks.specs.Request.{Request, request}
 use Rattle.blocks.specs.Response.{Response, hasError, response}
-use Rattle.part.specs.Layout.{withResponse}
+use Rattle.part.specs.Layout.{withResponse, withVersion, usedUp}
 use Rattle.access.specs.Read.{readBlocks}
 use Rattle.access.specs.Change.{changeAll}
 
@@ -29,13 +29,17 @@ workedRead r p =
     let bs = readBlocks p 4 (r .addresses) in
     record { response = answerOf r (cond (hasError bs) 0x81 0x01) bs; part = p; stored = 0 }
 
+-- R-7: "A version is taken after every change that stores at least one element"
+abbrev pub versioned : ℕ → List ℕ → List ℕ
+versioned stored p = cond (eqb stored 0) p (withVersion p)
+
 -- "02 ends there"; "82 has 40 00 and error blocks, at least one error"
 abbrev pub workedChange : Request → List ℕ → Worked
 workedChange r p =
     let c = changeAll (r .addresses) (r .blocks) p in
     record {
       response = cond (hasError (c .blocks)) (answerOf r 0x82 (c .blocks)) (answerOf r 0x02 []);
-      part = c .part;
+      part = versioned (c .stored) (c .part);
       stored = c .stored;
     }
 
@@ -49,17 +53,29 @@ pub record Outcome : Type 0 where
   pub stored : ℕ
   pub part : List ℕ
 
--- number 11, "block's axis isn't the caller's"; else "the response then waits"
-abbrev pub taken : ℕ → List ℕ → Request → Outcome
-taken axis p r =
-    cond (eqb (r .axis) axis)
-    (record { number = 0; stored = worked r p .stored; part = withResponse (response .write (worked r p .response)) (worked r p .part) })
-    (record { number = 11; stored = 0; part = p })
+abbrev pub refused : ℕ → List ℕ → Outcome
+refused n p = record { number = n; stored = 0; part = p }
+
+-- R-7, number 15: "numbers used up and an element would be stored"
+abbrev pub exhausts : Request → List ℕ → Bool
+exhausts r p = usedUp p && not (eqb (worked r p .stored) 0)
+
+-- number 11, "block's axis isn't the caller's", and 15; else "the response then waits"
+abbrev pub admitted : ℕ → List ℕ → Request → Outcome
+admitted axis p r =
+    cond (not (eqb (r .axis) axis)) (refused 11 p)
+    (cond (exhausts r p) (refused 15 p)
+    (record { number = 0; stored = worked r p .stored; part = withResponse (response .write (worked r p .response)) (worked r p .part) }))
 
 -- number 10, "block not readable"
-abbrev pub takenIf : ℕ → List ℕ → Bool → Got Request → Outcome
-takenIf axis p fits (got r t) = cond fits (taken axis p r) (record { number = 10; stored = 0; part = p })
-takenIf axis p fits bad = record { number = 10; stored = 0; part = p }
+abbrev pub admittedIf : ℕ → List ℕ → Bool → Got Request → Outcome
+admittedIf axis p fits (got r t) = cond fits (admitted axis p r) (refused 10 p)
+admittedIf axis p fits bad = refused 10 p
 
 unfoldable pub outcomeOf : ℕ → List ℕ → List ℕ → Outcome
-outcomeOf axis s p = takenIf axis p (readable blockLimit request s) (request .read s)
+outcomeOf axis s p = admittedIf axis p (readable blockLimit request s) (request .read s)
+
+-- whether the request that a block holds would be refused by 15
+abbrev pub exhaustsIn : List ℕ → Got Request → Bool
+exhaustsIn p (got r t) = exhausts r p
+exhaustsIn p bad = false

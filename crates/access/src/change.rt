@@ -15,9 +15,9 @@ ghost use Rattle.blocks.specs.declared.Head.{Head};
 ghost use Rattle.catalogue.specs.Table.{elementSize};
 ghost use Rattle.catalogue.specs.Element.{sizeCode, typeCode, valueOf};
 ghost use Rattle.access.specs.Change.{allInside, storeFrom, storeWhole, ofElements, changeOne, changeAll};
-ghost use Rattle.access.specs.Work.{workedChange};
-ghost use Rattle.access.specs.Walk.{blockIn, blocksIn, answerIn, Did, DidAll, Wrote, requestIn, respondedPart};
+ghost use Rattle.access.specs.Walk.{blockIn, blocksIn, answerIn, Did, DidAll, Wrote, requestIn, changeOutcome, Reported};
 use super::Checked;
+use super::Report;
 use super::copies;
 use super::reply;
 use super::reply::Written;
@@ -254,17 +254,32 @@ pub(crate) fn change_all(part: &mut [u8], block: &[u8], n: usize, out: &mut [u8]
     all
 }
 
-// The answer to a readable change, whose header is `h`: 02 alone, or 82 and its blocks where an address failed.
-pub(crate) fn answer(part: &mut [u8], block: &[u8], h: Header) -> u16
+// The answer to a readable change, whose header is `h`: 02 alone, or 82 and its blocks where an address failed. What was stored is kept as
+// a version; where no number is left for it the change is worked on no bytes, which tells what it would store, and is refused by that.
+pub(crate) fn answer(part: &mut [u8], block: &[u8], h: Header) -> Report
     requires { ⌜ (readable blockLimit request (now block) ≡ true) × (h ≡ headerOf (now block)) × (h .identifier ≡ 1 → ⊥) ⌝ }
-    ensures { λ r. ⌜ (r ≡ workedChange (requestIn (now (block .entry))) (now (part .entry)) .stored) × (now (part .exit) ≡ respondedPart (workedChange (requestIn (now (block .entry))) (now (part .entry)))) ⌝ }
+    ensures { λ r. ⌜ Reported (changeOutcome (requestIn (now (block .entry))) (now (part .entry))) (now (part .exit)) r ⌝ }
 {
     let mut body = [0u8; blocks::BLOCK_LIMIT];
-    let d = change_all(part, block, codes::wide(h.count), &mut body);
+    let used_up = part::is_used_up(part);
+    let open = if used_up { 0 } else { part.len() };
+    let d = change_all(&mut part[..open], block, codes::wide(h.count), &mut body);
+    if d.stored != 0 {
+        if used_up {
+            return Report {
+                number: 15,
+                stored: 0,
+            };
+        }
+        versions::take_within(part, part::VERSIONS);
+    }
     if d.error {
         reply::respond(part, h, 0x82, body, d.next);
     } else {
         reply::respond(part, h, 0x02, body, blocks::reader::FIRST);
     }
-    d.stored
+    Report {
+        number: 0,
+        stored: d.stored,
+    }
 }

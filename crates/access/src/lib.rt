@@ -21,7 +21,8 @@ pub struct Report {
     pub stored: u16,
 }
 
-// Works a block that was sent to an axis: refused where it is not readable or names another axis; else its response waits.
+// Works a block that was sent to an axis: refused where it is not readable, names another axis, or would store something where the
+// numbers of the versions are used up; else its response waits.
 pub fn work(part: &mut [u8], axis: u8, block: &[u8]) -> Report
     ensures { λ r. ⌜ (r .number ≡ outcomeOf axis (now (block .entry)) (now (part .entry)) .number) × (r .stored ≡ outcomeOf axis (now (block .entry)) (now (part .entry)) .stored) × (now (part .exit) ≡ outcomeOf axis (now (block .entry)) (now (part .entry)) .part) ⌝ }
 {
@@ -45,6 +46,5 @@ pub fn work(part: &mut [u8], axis: u8, block: &[u8]) -> Report
             stored: 0,
         };
     }
-    let stored = change::answer(part, block, h);
-    Report { number: 0, stored }
+    change::answer(part, block, h)
 }

@@ -38,13 +38,13 @@ fn first<'a>(s: &'a [u8], len: usize) -> &'a [u8] {
     &s[..len]
 }
 
-// The response that waits: the last bytes of a part are kept for it.
+// The response that waits.
 fn waiting<'a>(part: &'a [u8]) -> &'a [u8] {
     if part.len() != part::SIZE {
         return part;
     }
     let n = codes::wide(part::waiting_length(part));
-    first(&part[part::SIZE - blocks::BLOCK_LIMIT..], n)
+    first(&part[part::RESPONSE..], n)
 }
 
 // Works a block, prints what it comes to, and fetches the response.

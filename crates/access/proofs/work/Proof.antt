@@ -60,7 +60,7 @@ returns-4 c =
     let h = c .before .before .before .before .before .before .before .before .header-of in
     let d = c .before .before .answer2 in
     let o = sym (is-changed (a .axis) (now (a .block)) (now (a .part)) (sym (q .ensures) ∙ not-false (q .result) (c .before .before .before .before .before .before .before .before .before .if1 .left)) (h .result) (h .ensures) (c .before .before .before .before .before .before .if2 .left) (c .before .before .before .before .if3 .left)) in
-    (ap (λ (x : Outcome). x .number) o, d .ensures .0 ∙ ap (λ (x : Outcome). x .stored) o, d .ensures .1 ∙ ap (λ (x : Outcome). x .part) o)
+    (d .ensures .number ∙ ap (λ (x : Outcome). x .number) o, d .ensures .stored ∙ ap (λ (x : Outcome). x .stored) o, d .ensures .part ∙ ap (λ (x : Outcome). x .part) o)
 
 pub work-spec : {M : Type 1} → statement M
 work-spec =
