@@ -9,10 +9,11 @@ use lib.ListN.{length}
 use Rattle.codes.proofs.Put.{put-length}
 use Rattle.drive.specs.declared.Drive.{Drive}
 use Rattle.drive.specs.Cycle.{cycleOf}
-use Rattle.part.specs.Layout.{partSize, waiting}
+use Rattle.part.specs.Layout.{partSize, waiting, versions}
 use Rattle.part.specs.Record.{driveOf, putDrive}
 use Rattle.part.specs.WellFormed.{wellFormed}
 use Rattle.part.proofs.Laws.{cycle-well-formed, cycle-keeps-waiting}
+use Rattle.part.proofs.Laws.{cycle-keeps-versions}
 use Rattle.station.specs.Cycle.{Sent, inputOf, cycleTests, cycleRefusal, refusedCycle, cycleAnswer, cyclePart}
 use Rattle.station.specs.Calls.{cycle, toCycle, kindOf}
 use Rattle.station.specs.Owed.{Owes}
@@ -51,6 +52,7 @@ module _ (axis : ℕ) (i : Sent) where
   cycle-owes =
       record {
         names = λ n. refl;
+        empty = λ n. refl;
         numbered = numbered;
         later = λ p. later;
         refuses = refuses;
@@ -59,4 +61,6 @@ module _ (axis : ℕ) (i : Sent) where
             one-of (λ (l : List ℕ). wellFormed axis l ≡ true) (eqb (cycleRefusal axis i p) 0) _ _
             (cycle-well-formed axis p (inputOf i p) w (record { stw1 = fits .stw1; nsoll = fits .nsoll; nist = fits .nist; fault = fits .fault })) w;
         waits = λ p quiet some. cycle-keeps axis i p;
+        versioned = λ p h. one-of (λ (l : List ℕ). versions l ≡ versions p) (eqb (cycleRefusal axis i p) 0) _ _ (cycle-keeps-versions p (inputOf i p)) refl;
+        numbers = λ p some. absurd (some refl);
       }

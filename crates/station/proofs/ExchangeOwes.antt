@@ -16,6 +16,7 @@ use Rattle.station.specs.Calls.{exchange, toFrame, refusedFrame, kindOf}
 use Rattle.station.specs.Owed.{Owes}
 use Rattle.station.proofs.Tests.{by-test, one-of}
 use Rattle.station.proofs.Answers.{quiet}
+use Rattle.station.proofs.Outcome.{Versioned, responded-versioned}
 use Rattle.station.proofs.Judged.{done-passes}
 use Rattle.station.proofs.Says.{later}
 use Rattle.station.proofs.FrameOwes.{writes, frame-owes}
@@ -122,6 +123,23 @@ module _ (k : ℕ) (f m p : List ℕ) where
       go zero w = absurd (some (writes k (noRead f) (length m) p w (unread f) .1))
       go (suc n) w = ap waiting (refuses n w .1)
 
+  -- it stores what its write does, and the fetch leaves the versions
+  stored-is : exchangeDone k f m p .told .stored ≡ frameAnswer k (noRead f) m p .stored
+  unfolding exchangeDone
+  stored-is = one-of (λ (d : FrameDone). d .told .stored ≡ frameAnswer k (noRead f) m p .stored) (eqb (frameAnswer k (noRead f) m p .number) 0) _ _ refl refl
+
+  versioned : length p ≡ partSize → Versioned p (exchangeDone k f m p .told .stored) (exchangeDone k f m p .part)
+  unfolding framePart
+  versioned size =
+      let q : List ℕ = framePart k (noRead f) m p in
+      let stored : ℕ = frameAnswer k (noRead f) m p .stored in
+      let write = frame-owes k (noRead f) m in
+      rw (stored-is)
+      (keeps (Versioned p stored) (write .versioned p size)
+      (λ v.
+      one-of (Versioned p stored) (eqb (frameRefusal k fetchAll (length (frameReply k (noRead f) m p)) q) 0) _ _
+      (responded-versioned p q [] stored (omega arith) v) v))
+
 -- what is done was no read
 pub done-unread : (k : ℕ) (f : List ℕ) (m : ℕ) (p : List ℕ) → frameRefusal k (noRead f) m p ≡ 0 → isRead f ≡ false
 unfolding frameRefusal
@@ -151,6 +169,7 @@ pub exchange-owes : (k : ℕ) (f m : List ℕ) → Owes (kindOf (exchange k f m)
 exchange-owes k f m =
     record {
       names = λ n. refl;
+      empty = λ n. refl;
       numbered = λ p. numbered k f m p ∙ tested k f m p;
       later = λ p. one-of Later (ltb (length m) 244) 3 _ (λ low. absurd (omega arith)) (one-of Later (isRead f) 4 _ (λ low. absurd (omega arith)) (later k f (length m) p));
       refuses = λ p n e. refuses k f m p n (sym (numbered k f m p) ∙ e);
@@ -161,6 +180,8 @@ exchange-owes k f m =
           keeps k f m p (λ (l : List ℕ). wellFormed k l ≡ true) (frame-owes k (noRead f) m .formed p tt w)
           (frame-owes k fetchAll (frameReply k (noRead f) m p) .formed (framePart k (noRead f) m p) tt);
       waits = λ p quiet. waits k f m p;
+      versioned = λ p. versioned k f m p;
+      numbers = λ p some. frame-owes k (noRead f) m .numbers p (λ none. some (stored-is k f m p ∙ none));
     }
   where
     Later : ℕ → Type 0

@@ -9,17 +9,15 @@ use lib.ListN.{length, take, drop, length-drop}
 use lib.Seq.{length-take-le, take-all, take-take}
 use borrow.Author.Tests.{ne-eqb, eqb-true, eqb-false, leb-true}
 use Rattle.codes.specs.Code.{readable}
-use Rattle.codes.specs.Number.{put, numberAt}
+use Rattle.codes.specs.Number.{put}
 use Rattle.codes.proofs.Put.{put-append}
 use Rattle.codes.proofs.Demand.{both}
 use Rattle.blocks.specs.Block.{blockLimit}
 use Rattle.blocks.specs.Place.{headerOf}
 use Rattle.blocks.specs.Response.{response}
-use Rattle.drive.specs.Faults.{properFaults}
-use Rattle.catalogue.specs.Table.{rows}
-use Rattle.part.specs.Layout.{stateAt, responseAt, responseRoom, partSize, waitingLength, waiting, withResponse}
-use Rattle.part.specs.Record.{faultsOf}
-use Rattle.part.specs.WellFormed.{wellFormed, isState, everyRow, limitsFit, fixedFit, waitingFits, unusedFit}
+use Rattle.part.specs.Layout.{responseAt, responseRoom, partSize, waitingLength, waiting, withResponse}
+use Rattle.part.specs.WellFormed.{wellFormed, waitingFits}
+use Rattle.part.proofs.Rule.{form-of}
 use Rattle.station.specs.Inner.{outcome, fetched, framed}
 use Rattle.station.specs.Frame.{lengthByte, blockOf, isWrite, refusedReply, replyOf, frameRefusal, frameAnswer, frameReply, framePart}
 use Rattle.station.proofs.Outcome.{outcome-number, outcome-refused}
@@ -33,19 +31,11 @@ waits w r t e = go (eqb w 0) refl
     go true h = omega (arith, eqb-true w 0 h)
     go false h = leb-true w blockLimit (both (leb w blockLimit) r (both (leb w blockLimit && r) t (rw h at e) .0) .0)
 
--- the first and the last but one of seven tests
-two : (a b c d e f g : Bool) → a && b && c && d && e && f && g ≡ true → (a ≡ true) × (f ≡ true)
-two a b c d e f g h =
-    let x = both (a && b && c && d && e) f (both (a && b && c && d && e && f) g h .0) in
-    (both a b (both (a && b) c (both (a && b && c) d (both (a && b && c && d) e (x .0) .0) .0) .0) .0, x .1)
-
 pub formed : (k : ℕ) (p : List ℕ) → wellFormed k p ≡ true → (length p ≡ partSize) × (waitingLength p ≤ blockLimit)
-unfolding wellFormed waitingFits
+unfolding waitingFits
 formed k p e =
-    let t =
-    two (eqb (length p) partSize) (isState (numberAt 1 p stateAt)) (everyRow (limitsFit p) rows) (everyRow (fixedFit p) rows) (properFaults (faultsOf p))
-    (waitingFits k p) (unusedFit p) e in
-    (eqb-true (length p) partSize (t .0), waits (waitingLength p) (readable blockLimit response (waiting p)) (eqb (headerOf (waiting p) .axis) k) (t .1))
+    let f = form-of k p e in
+    (f .size, waits (waitingLength p) (readable blockLimit response (waiting p)) (eqb (headerOf (waiting p) .axis) k) (f .waits))
 
 -- the head of the answer to a read and the w bytes that wait, put side by side
 pub handed :

@@ -2,38 +2,44 @@
 -- What a law concludes is written out too, and of each record that a law asks for one is built.
 use mathlib.Core.Path.{_≡_, refl, ap, _∙_}
 use mathlib.Core.Bool.{Bool, true, false}
-use mathlib.Core.List.{List, [], _∷_, _++_, map}
+use mathlib.Core.List.{List, [], _∷_, _++_, map, List·Memᴰ}
 use mathlib.Core.Logic.{inl, inr}
-use Prim.Native.Nat.{ℕ, _-_, _≤_}
+use Prim.Native.Nat.{ℕ, suc, _+_, _-_, _≤_, _<_}
 use native.Mathlib.Omega.{arith}
 use lib.Dec.{eqb, lit≤, lit<}
 use lib.IntN.{pos, negsuc}
 use lib.ListN.{length, take, drop}
-use borrow.Author.Tests.{eq-eqb, le-ltb}
+use borrow.Author.Tests.{eq-eqb, le-ltb, lt-leb}
 use Rattle.codes.specs.Code.{got, AllOf, readable}
 use Rattle.codes.specs.Number.{numberAt, put}
 use Rattle.blocks.specs.Block.{blockLimit, formatSize, valueSize, changeBlockFits, valuesOf, block}
 use Rattle.blocks.specs.Request.{Request, address, requestBlocks, request}
 use Rattle.blocks.specs.Response.{response}
+use Rattle.blocks.specs.Place.{headerOf}
 use Rattle.blocks.specs.Page.{RequestFits, requestBytes, ResponseFits, responseBytes}
 use Rattle.checker.specs.Check.{checkOf}
 use Rattle.drive.specs.Cycle.{cycleOf}
+use Rattle.catalogue.specs.declared.Row.{Row}
 use Rattle.catalogue.specs.Table.{rows, parameterBytes, offsetOf}
-use Rattle.catalogue.specs.Element.{putElement}
-use Rattle.part.specs.Layout.{partSize, waitingLength, waiting, withResponse}
-use Rattle.part.specs.Fresh.{freshPart}
+use Rattle.catalogue.specs.Element.{elementOf, putElement}
+use Rattle.versions.specs.Layout.{columns, lastAt, lastUsed, oldest}
+use Rattle.versions.specs.Keep.{filled, filledWithin}
+use Rattle.versions.specs.Version.{settingsOf, versionOf, isKept}
+use Rattle.part.specs.Layout.{partSize, waitingLength, waiting, withResponse, versions, withVersion}
+use Rattle.part.specs.Fresh.{freshFront, freshPart}
 use Rattle.part.specs.Record.{driveOf}
 use Rattle.part.specs.WellFormed.{wellFormed}
-use Rattle.access.specs.Work.{worked, outcomeOf}
+use Rattle.access.specs.Work.{worked, exhausts, outcomeOf, exhaustsIn}
 use Rattle.access.proofs.Answers.{answer-short}
 use Rattle.station.specs.declared.Framed.{Framed}
-use Rattle.station.specs.Parts.{farms, stationSize, partOf, freshStation}
+use Rattle.station.specs.declared.Listed.{Listed}
+use Rattle.station.specs.Parts.{farms, stationSize, partOf, stationRefusal, freshStation}
 use Rattle.station.specs.Frame.{frameRefusal, frameReply}
 use Rattle.station.specs.Cycle.{Sent, SentFits, inputOf, cycleRefusal, cycleAnswer}
 use Rattle.station.specs.Runs.{callsBy, answersTo, SameSeen, runAnswers, runEnd}
 use Rattle.station.specs.Isolation.{Isolated, answer, after, machine}
-use Rattle.station.specs.Calls.{Call, cycle, frame, exchange, frameBy, toFrame, numberIn, owner, kinds}
-use Rattle.station.specs.Worked.{marksFrame, fetchFrame, workedCalls, mergedCalls, wholeCalls, endedPart}
+use Rattle.station.specs.Calls.{Call, cycle, frame, exchange, list, goBack, frameBy, toFrame, toList, toReturn, numberIn, storedIn, owner, kinds}
+use Rattle.station.specs.Worked.{marksFrame, fetchFrame, workedCalls, mergedCalls, wholeCalls, versionCalls, endedPart, versionPart}
 use Rattle.station.specs.Laws.{Refuses, WellFormedStation, AtRest, replied, Responded}
 use Rattle.station.proofs.Owes.{isolated-station, keeps-size, keeps-others}
 use Rattle.station.proofs.Cycles.{tells-what-it-did}
@@ -41,7 +47,8 @@ use Rattle.station.proofs.Outcome.{block-numbered}
 use Rattle.station.proofs.Refusals.{numbered-by-table, is-refused, empty-reply, reply-stands, foreign-axis, unreadable-block}
 use Rattle.station.proofs.Stays.{fresh-parts, never-ill-formed}
 use Rattle.station.proofs.Sends.{waits-as-ruled, sends-waiting}
-use Rattle.station.proofs.Worked.{worked-by-hand, merged-by-hand, whole-by-hand}
+use Rattle.station.proofs.Versioned.{version-taken, versions-stay, version-stands, fresh-uses-none, lists-kept, goes-back}
+use Rattle.station.proofs.Worked.{worked-by-hand, merged-by-hand, whole-by-hand, versions-by-hand}
 use Rattle.station.proofs.Responds.{responds-as-ruled, fetch-follows}
 use Rattle.station.proofs.Merged.{in-turn, write-alone, read-as-none, merges-as-ruled}
 use Rattle.station.proofs.Past.{past-stays}
@@ -103,17 +110,18 @@ module _ (s : List ℕ) (size : length s ≡ stationSize) where
   last-fresh : partOf 16 (freshStation s) ≡ freshPart
   last-fresh = fresh-parts s size 16 (lit≤ tt) (lit≤ tt)
 
-  -- NeverIllFormed: any frame and merged call of any farm, between cycles with the largest words
-  never-2 : (k : ℕ) (f m : List ℕ)
-      → AllOf (λ a. numberIn a ≡ 2 → ⊥) (runAnswers (machine kinds) (cycle 16 largest ∷ frame k f m ∷ exchange k f m ∷ cycle k largest ∷ []) (freshStation s))
-  never-2 k f m = never-ill-formed (cycle 16 largest ∷ frame k f m ∷ exchange k f m ∷ cycle k largest ∷ []) s (fit, (tt, (tt, (fit, tt)))) size .never2
+  -- NeverIllFormed: any frame, merged call, going back and list of any farm, between cycles with the largest words
+  never-2 : (k n : ℕ) (f m : List ℕ)
+      → AllOf (λ a. numberIn a ≡ 2 → ⊥) (runAnswers (machine kinds) (cycle 16 largest ∷ frame k f m ∷ exchange k f m ∷ goBack k n ∷ list k ∷ cycle k largest ∷ []) (freshStation s))
+  never-2 k n f m =
+      never-ill-formed (cycle 16 largest ∷ frame k f m ∷ exchange k f m ∷ goBack k n ∷ list k ∷ cycle k largest ∷ []) s (fit, (tt, (tt, (tt, (tt, (fit, tt)))))) size .never2
 
   formed-end : (k : ℕ) (f m : List ℕ) → wellFormed 16 (partOf 16 (runEnd (machine kinds) (frame k f m ∷ []) (freshStation s))) ≡ true
   formed-end k f m = never-ill-formed (frame k f m ∷ []) s (tt, tt) size .ends .parts 16 (lit≤ tt) (lit≤ tt)
 
   -- AtRest: every farm of a fresh station
   rests : (k : ℕ) → 1 ≤ k → k ≤ farms → AtRest k (freshStation s)
-  unfolding runEnd freshPart rows parameterBytes putElement numberAt put
+  unfolding runEnd freshFront freshPart rows parameterBytes putElement columns lastAt filled filledWithin numberAt put
   rests k low high =
       record {
         low = low;
@@ -145,8 +153,34 @@ module _ (s : List ℕ) (size : length s ≡ stationSize) where
   whole-by-hand-too :
       (length wholeCalls ≡ 2) × (runAnswers (machine kinds) (map (λ w. w .call) wholeCalls) (freshStation s) ≡ map (λ w. w .answer) wholeCalls)
       × (partOf 1 (runEnd (machine kinds) (map (λ w. w .call) wholeCalls) (freshStation s))
-      ≡ put (put freshPart (offsetOf 9900) (0x00 ∷ 0x07 ∷ [])) (offsetOf 30001) (0x00 ∷ 0x01 ∷ 0x00 ∷ 0x02 ∷ 0x0B ∷ 0xB8 ∷ 0x01 ∷ 0xF4 ∷ []))
+      ≡ withVersion
+      (put
+      (put (withVersion (put freshPart (offsetOf 30001) (0x03 ∷ 0xE8 ∷ 0x07 ∷ 0xD0 ∷ 0x0B ∷ 0xB8 ∷ 0x01 ∷ 0xF4 ∷ []))) (offsetOf 30001)
+      (0x00 ∷ 0x01 ∷ 0x00 ∷ 0x02 ∷ 0x0B ∷ 0xB8 ∷ 0x01 ∷ 0xF4 ∷ []))
+      (offsetOf 9900)
+      (0x00 ∷ 0x07 ∷ [])))
   whole-by-hand-too = let w = whole-by-hand s size in (refl, w .0, w .1)
+
+  -- VersionsByHand: these, and seven lists and goings back
+  versions-by-hand-too :
+      (length versionCalls ≡ 9) × (runAnswers (machine kinds) (map (λ w. w .call) versionCalls) (freshStation s) ≡ map (λ w. w .answer) versionCalls)
+      × (partOf 1 (runEnd (machine kinds) (map (λ w. w .call) versionCalls) (freshStation s)) ≡ versionPart)
+  versions-by-hand-too = let w = versions-by-hand s size in (refl, w .0, w .1)
+
+  -- FreshUsesNone: the first and the last
+  first-unused : lastUsed (versions (partOf 1 (freshStation s))) ≡ 0
+  first-unused = fresh-uses-none s size 1 (lit≤ tt) (lit≤ tt)
+
+  last-unused : lastUsed (versions (partOf 16 (freshStation s))) ≡ 0
+  last-unused = fresh-uses-none s size 16 (lit≤ tt) (lit≤ tt)
+
+  -- VersionsStay: a cycle leaves those of its own axis, and so does a going back that stores nothing those of any
+  cycle-stays : (i : Sent) → versions (partOf 16 (after kinds (cycle 16 i) s)) ≡ versions (partOf 16 s)
+  unfolding answer stationRefusal
+  cycle-stays i = versions-stay (cycle 16 i) s size (rw (eq-eqb (length s) stationSize size)) 16 (lit≤ tt) (lit≤ tt)
+
+  refused-stays : (k n : ℕ) → storedIn (answer kinds (goBack k n) s) ≡ 0 → versions (partOf 1 (after kinds (goBack k n) s)) ≡ versions (partOf 1 s)
+  refused-stays k n none = versions-stay (goBack k n) s size none 1 (lit≤ tt) (lit≤ tt)
 
 -- Refused and NumberedByTable: an axis that there is not
 nobody : (i : Sent) (s : List ℕ) → Refuses (cycle 17 i) s
@@ -197,7 +231,7 @@ module _ (m s : List ℕ) where
   denied-kept : (after kinds (frame 2 marksFrame m) s ≡ s) × (numberIn (answer kinds (frame 2 marksFrame m) s) ≡ 0 → ⊥)
   denied-kept = (denied .kept, denied .number)
 
--- BlockNumbered: both numbers
+-- BlockNumbered: all three numbers
 ten : (k : ℕ) (p : List ℕ) → outcomeOf k [] p .number ≡ 10
 unfolding readable request
 ten k p = block-numbered k [] p
@@ -206,20 +240,31 @@ eleven : (p : List ℕ) → outcomeOf 2 (drop 4 marksFrame) p .number ≡ 11
 unfolding readable request numberAt formatSize valueSize changeBlockFits valuesOf block address requestBlocks
 eleven p = block-numbered 2 (drop 4 marksFrame) p
 
--- NumberedByTable: flags 4, on any well-formed station
+fifteen : (s p : List ℕ) → readable blockLimit request s ≡ true → headerOf s .axis ≡ 16 → exhaustsIn p (request .read s) ≡ true → outcomeOf 16 s p .number ≡ 15
+fifteen s p reads mine up = block-numbered 16 s p ∙ rw (reads, eq-eqb (headerOf s .axis) 16 mine, up)
+
+-- NumberedByTable: flags 4, and version 0, on any well-formed station
 flagged : (s : List ℕ) → WellFormedStation s → numberIn (answer kinds (cycle 1 (record { flags = 4; stw1 = 0; nsoll = pos 0; nist = pos 0; fault = 0 })) s) ≡ 12
 flagged s w =
     numbered-by-table (cycle 1 (record { flags = 4; stw1 = 0; nsoll = pos 0; nist = pos 0; fault = 0 })) s
     ∙ rw (eq-eqb (length s) stationSize (w .size), w .parts 1 (lit≤ tt) (lit≤ tt))
 
+unkept : (s : List ℕ) → WellFormedStation s → numberIn (answer kinds (goBack 16 0) s) ≡ 14
+unkept s w =
+    numbered-by-table (goBack 16 0) s
+    ∙ rw (eq-eqb (length s) stationSize (w .size), w .parts 16 (lit≤ tt) (lit≤ tt), lt-leb (oldest (versions (partOf 16 s))) 0 (omega arith))
+
 -- ReplyStands: the four bytes of a denial, and nothing past them
 denial : (m p : List ℕ) → frameRefusal 2 marksFrame (length m) p ≡ 11 → frameReply 2 marksFrame m p ≡ (0xDF ∷ 0x80 ∷ 0xB6 ∷ 0 ∷ []) ++ drop 4 m
 denial m p e = reply-stands 2 marksFrame m p ∙ rw e refl
 
+denial-used-up : (m p : List ℕ) → frameRefusal 1 marksFrame (length m) p ≡ 15 → frameReply 1 marksFrame m p ≡ (0xDF ∷ 0x80 ∷ 0xA1 ∷ 0 ∷ []) ++ drop 4 m
+denial-used-up m p e = reply-stands 1 marksFrame m p ∙ rw e refl
+
 -- WaitsAsRuled and SendsWaiting: what waits, and what a fetch sends, is readable
-waits : (k : ℕ) (s p : List ℕ) (r : Request) → length p ≡ partSize → readable blockLimit request s ≡ true → request .read s ≡ got r [] → r .axis ≡ k
+waits : (k : ℕ) (s p : List ℕ) (r : Request) → length p ≡ partSize → readable blockLimit request s ≡ true → request .read s ≡ got r [] → r .axis ≡ k → exhausts r p ≡ false
     → readable blockLimit response (waiting (outcomeOf k s p .part)) ≡ true
-waits k s p r size reads back mine = waits-as-ruled k s p r size reads back mine .1
+waits k s p r size reads back mine left = waits-as-ruled k s p r size reads back mine left .1
 
 sent :
     (k : ℕ) (m p : List ℕ) → frameRefusal k fetchFrame (length m) p ≡ 0
@@ -228,27 +273,27 @@ sent k m p e = sends-waiting k fetchFrame m p e refl
 
 -- RespondsAsRuled: farm 1 and farm 16, with as many bytes as wait and with the most, nothing between and a call of each kind
 module _ (r : Request) (fits : RequestFits r) (short : length (requestBytes r) ≤ 240) (s m w : List ℕ) (room : 244 ≤ length m) (wide : 244 ≤ length w) where
-  least : AtRest 1 s → r .axis ≡ 1 → Responded 1 r s m [] (length (responseBytes (worked r (partOf 1 s) .response))) w
-  least rest mine = responds-as-ruled 1 r s m [] _ w rest fits short mine room tt (omega arith) (answer-short r (partOf 1 s) fits) wide
+  least : AtRest 1 s → r .axis ≡ 1 → exhausts r (partOf 1 s) ≡ false → Responded 1 r s m [] (length (responseBytes (worked r (partOf 1 s) .response))) w
+  least rest mine left = responds-as-ruled 1 r s m [] _ w rest fits short mine left room tt (omega arith) (answer-short r (partOf 1 s) fits) wide
 
   -- Between: a cycle, a write and a merged call of the farm's own, and a read of another's
-  most : (f g h : List ℕ) → AtRest 16 s → r .axis ≡ 16
+  most : (f g h : List ℕ) → AtRest 16 s → r .axis ≡ 16 → exhausts r (partOf 16 s) ≡ false
       → Responded 16 r s m (cycle 16 largest ∷ frame 16 marksFrame g ∷ exchange 16 f h ∷ frame 15 fetchFrame g ∷ []) 240 w
-  most f g h rest mine =
-      responds-as-ruled 16 r s m (cycle 16 largest ∷ frame 16 marksFrame g ∷ exchange 16 f h ∷ frame 15 fetchFrame g ∷ []) 240 w rest fits short mine room
+  most f g h rest mine left =
+      responds-as-ruled 16 r s m (cycle 16 largest ∷ frame 16 marksFrame g ∷ exchange 16 f h ∷ frame 15 fetchFrame g ∷ []) 240 w rest fits short mine left room
       (record { fits = λ e. fit; stays = λ e. inl refl }, (record { fits = λ e. tt; stays = λ e. inl refl }, (record { fits = λ e. tt; stays = λ e. inl refl }, (record { fits = λ e. tt; stays = λ e. absurd (omega arith) }, tt))))
       (answer-short r (partOf 16 s) fits) (lit≤ tt) wide
 
   -- MergesAsRuled: what a merged call answers, and that nothing waits then
-  merged : AtRest 16 s → r .axis ≡ 16
+  merged : AtRest 16 s → r .axis ≡ 16 → exhausts r (partOf 16 s) ≡ false
       → (answer kinds (exchange 16 (0x5F ∷ 0 ∷ 0x2F ∷ length (requestBytes r) ∷ requestBytes r) m) s
       ≡ replied (0x5E ∷ 0 ∷ 0x2F ∷ length (responseBytes (worked r (partOf 16 s) .response)) ∷ responseBytes (worked r (partOf 16 s) .response)) (worked r (partOf 16 s) .stored) m)
       × (waitingLength (partOf 16 (after kinds (exchange 16 (0x5F ∷ 0 ∷ 0x2F ∷ length (requestBytes r) ∷ requestBytes r) m) s)) ≡ 0)
       × (partOf 16 (after kinds (exchange 16 (0x5F ∷ 0 ∷ 0x2F ∷ length (requestBytes r) ∷ requestBytes r) m) s) ≡ withResponse [] (worked r (partOf 16 s) .part))
-  merged rest mine = let x = merges-as-ruled 16 r s m rest fits short mine room in (x .answered, x .idle, x .left)
+  merged rest mine left = let x = merges-as-ruled 16 r s m rest fits short mine left room in (x .answered, x .idle, x .left)
 
   -- and written out: what is acknowledged, what is fetched, and that nothing waits then
-  module _ (rest : AtRest 1 s) (mine : r .axis ≡ 1) where
+  module _ (rest : AtRest 1 s) (mine : r .axis ≡ 1) (left : exhausts r (partOf 1 s) ≡ false) where
     abbrev given : List ℕ
     given = responseBytes (worked r (partOf 1 s) .response)
 
@@ -264,7 +309,7 @@ module _ (r : Request) (fits : RequestFits r) (short : length (requestBytes r) �
         × (length given ≤ 240)
     unfolding runEnd
     exchanged =
-        let x = responds-as-ruled 1 r s m [] 240 w rest fits short mine room tt (answer-short r (partOf 1 s) fits) (lit≤ tt) wide in
+        let x = responds-as-ruled 1 r s m [] 240 w rest fits short mine left room tt (answer-short r (partOf 1 s) fits) (lit≤ tt) wide in
         (x .acknowledged, x .answered, x .idle, x .fits, x .short)
 
 -- FetchFollows, InTurn, WriteAlone, PastStays and ReadAsNone: the worked write, on any station and with any reply memory
@@ -317,3 +362,45 @@ module _ (i : Sent) (p : List ℕ) (fine : cycleRefusal 16 i p ≡ 0) where
 
   told-entry : cycleOf (driveOf p) (inputOf i p) .output .entered ≡ true → cycleAnswer 16 i p .entered ≡ true
   told-entry e = tells-what-it-did 16 i p fine .1 ∙ e
+
+-- VersionTaken and VersionStands: any frame that stores, of the last farm; and after it a cycle, a going back and a neighbour's merged call
+module _ (f m s : List ℕ) (some : storedIn (answer kinds (frame 16 f m) s) ≡ 0 → ⊥) where
+  abbrev changed : List ℕ
+  changed = after kinds (frame 16 f m) s
+
+  took :
+      (lastUsed (versions (partOf 16 changed)) ≡ suc (lastUsed (versions (partOf 16 s))))
+      × (versionOf (lastUsed (versions (partOf 16 changed))) (versions (partOf 16 changed)) ≡ settingsOf (partOf 16 changed))
+      × ((n : ℕ) → n ≤ lastUsed (versions (partOf 16 s)) → isKept n (versions (partOf 16 changed)) ≡ true
+      → versionOf n (versions (partOf 16 changed)) ≡ versionOf n (versions (partOf 16 s)))
+  took = let t = version-taken (frame 16 f m) s some in (t .next, t .settings, t .kept)
+
+  stands :
+      (i : Sent) (n : ℕ) (g h : List ℕ)
+      → let end = after kinds (exchange 15 g h) (after kinds (goBack 16 n) (after kinds (cycle 16 i) changed)) in
+      isKept (lastUsed (versions (partOf 16 changed))) (versions (partOf 16 end)) ≡ true
+      → versionOf (lastUsed (versions (partOf 16 changed))) (versions (partOf 16 end)) ≡ settingsOf (partOf 16 changed)
+  unfolding runEnd
+  stands i n g h kept = version-stands (frame 16 f m) s (cycle 16 i ∷ goBack 16 n ∷ exchange 15 g h ∷ []) some kept
+
+-- ListsKept: that of the last farm tells no other number, and every one that is kept
+module _ (s : List ℕ) (a : Listed) (e : answer kinds (list 16) s ≡ toList a) (z : a .number ≡ 0) (n : ℕ) where
+  told-kept : a .oldest ≤ n → n < a .oldest + a .kept → isKept n (versions (partOf 16 s)) ≡ true
+  told-kept low high = lists-kept 16 s a e z n .1 (low, high)
+
+  kept-told : isKept n (versions (partOf 16 s)) ≡ true → (a .oldest ≤ n) × (n < a .oldest + a .kept)
+  kept-told = lists-kept 16 s a e z n .0
+
+-- GoesBack: of the last farm
+module _ (n : ℕ) (s : List ℕ) (z : numberIn (answer kinds (goBack 16 n) s) ≡ 0) where
+  went-back :
+      (answer kinds (goBack 16 n) s ≡ toReturn (record { stored = 18; version = suc (lastUsed (versions (partOf 16 s))); number = 0 }))
+      × (settingsOf (partOf 16 (after kinds (goBack 16 n) s)) ≡ versionOf n (versions (partOf 16 s)))
+  went-back = let w = goes-back 16 n s z in (w .answered, w .settings)
+
+  not-rewound :
+      (r : Row) → List·Memᴰ r rows → r .writable ≡ false → (j : ℕ) → j < r .count
+      → (elementOf r j (partOf 16 (after kinds (goBack 16 n) s)) ≡ elementOf r j (partOf 16 s))
+      × (take 244 (drop 118 (partOf 16 (after kinds (goBack 16 n) s))) ≡ take 244 (drop 118 (partOf 16 s)))
+  unfolding parameterBytes rows
+  not-rewound r m fixed j h = let w = goes-back 16 n s z in (w .others r m fixed j h, w .rest)

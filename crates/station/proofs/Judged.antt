@@ -13,24 +13,29 @@ use Rattle.blocks.specs.Request.{request}
 use Rattle.blocks.specs.Place.{headerOf}
 use Rattle.part.specs.Layout.{waitingLength}
 use Rattle.part.specs.WellFormed.{wellFormed}
+use Rattle.access.specs.Work.{exhaustsIn}
 use Rattle.station.specs.Frame.{slot, index, lengthByte, blockOf, isWrite, isRead, lengthFits, frameRefusal}
 use Rattle.station.specs.Inner.{early}
 
--- numbers 10 and 11, which are not early
-abbrev pub blockNumber : ℕ → List ℕ → ℕ
-blockNumber k f =
+-- numbers 10, 11 and 15, which are not early
+abbrev pub blockNumber : ℕ → List ℕ → List ℕ → ℕ
+blockNumber k f p =
     cond (isWrite f && not (readable blockLimit request (blockOf f))) 10
     (cond (isWrite f && not (eqb (headerOf (blockOf f) .axis) k)) 11
-    0)
+    (cond (isWrite f && exhaustsIn p (request .read (blockOf f))) 15
+    0))
 
-late : (a b : Bool) → 0 ≡ early (cond a 10 (cond b 11 0))
+late : (a b c : Bool) → 0 ≡ early (cond a 10 (cond b 11 (cond c 15 0)))
 unfolding early
-late true b = refl
-late false true = refl
-late false false = refl
+late true b c = refl
+late false true c = refl
+late false false true = refl
+late false false false = refl
 
-pub block-late : (k : ℕ) (f : List ℕ) → 0 ≡ early (blockNumber k f)
-block-late k f = late (isWrite f && not (readable blockLimit request (blockOf f))) (isWrite f && not (eqb (headerOf (blockOf f) .axis) k))
+pub block-late : (k : ℕ) (f p : List ℕ) → 0 ≡ early (blockNumber k f p)
+block-late k f p =
+    late (isWrite f && not (readable blockLimit request (blockOf f))) (isWrite f && not (eqb (headerOf (blockOf f) .axis) k))
+    (isWrite f && exhaustsIn p (request .read (blockOf f)))
 
 -- an early refusal is the refusal
 pub refused-early : (n x : ℕ) → n ≡ early x → (n ≡ 0 → ⊥) → x ≡ n
@@ -70,7 +75,7 @@ pub record Passed (k : ℕ) (f : List ℕ) (m : ℕ) (p : List ℕ) : Type 0 whe
   pub head : 4 ≤ length f
   pub function : isWrite f || isRead f ≡ true
   pub turn : (isWrite f && not (eqb (waitingLength p) 0) || isRead f && eqb (waitingLength p) 0) ≡ false
-  pub number : frameRefusal k f m p ≡ blockNumber k f
+  pub number : frameRefusal k f m p ≡ blockNumber k f p
 
 pub passes : (k : ℕ) (f : List ℕ) (m : ℕ) (p : List ℕ) → 0 ≡ early (frameRefusal k f m p) → Passed k f m p
 unfolding frameRefusal
@@ -78,7 +83,7 @@ passes k f m p e =
     let t =
     passed (not (wellFormed k p)) (ltb m 244) (ltb (length f) 4 || not (isWrite f || isRead f)) (not (eqb (slot f) 0)) (not (eqb (index f) 47)) (not (lengthFits f))
     (isWrite f && not (eqb (waitingLength p) 0) || isRead f && eqb (waitingLength p) 0) (isRead f && ltb (lengthByte f) (waitingLength p))
-    (blockNumber k f) e in
+    (blockNumber k f p) e in
     record {
       formed = not-false (wellFormed k p) (t .0);
       room = ltb-false m 244 (t .1);

@@ -11,12 +11,15 @@ pub mod CycleOwes
 pub mod FrameOwes
 pub mod Passes
 pub mod ExchangeOwes
+pub mod VersionsOwes
+pub mod Returning
 pub mod Windows
 pub mod Runs
 pub mod Isolation
 pub mod Owes
 pub mod Refusals
 pub mod Stays
+pub mod Versioned
 pub mod Worked
 pub mod Responds
 pub mod Merged

@@ -15,7 +15,7 @@ use Rattle.blocks.specs.Page.{RequestFits, requestBytes, responseBytes}
 use Rattle.blocks.proofs.Page.{response-bytes}
 use Rattle.part.specs.Layout.{partSize, waitingLength, withResponse}
 use Rattle.part.proofs.Laws.{response-again}
-use Rattle.access.specs.Work.{worked, Outcome}
+use Rattle.access.specs.Work.{worked, Outcome, exhausts}
 use Rattle.access.proofs.Answers.{answer-short}
 use Rattle.access.proofs.Keeps.{only-stored-changes}
 use Rattle.station.specs.declared.Framed.{Framed}
@@ -24,7 +24,7 @@ use Rattle.station.specs.Frame.{function, isWrite, isRead, frameRefusal,
 use Rattle.station.specs.Exchange.{FrameDone, fetchAll, noRead}
 use Rattle.station.specs.Runs.{runEnd}
 use Rattle.station.specs.Isolation.{answer, after}
-use Rattle.station.specs.Calls.{frame, exchange, Answer, toCycle, toFrame, refusedFrame, numberIn, kinds}
+use Rattle.station.specs.Calls.{frame, exchange, Answer, toCycle, toFrame, toList, toReturn, refusedFrame, numberIn, kinds}
 use Rattle.station.specs.Laws.{writeOf, InTurn, WriteAlone, ReadAsNone, MergesAsRuled}
 use Rattle.station.proofs.Tests.{one-of}
 use Rattle.station.proofs.Judged.{done-passes}
@@ -40,12 +40,16 @@ use Rattle.station.proofs.Responds.{reads, reads-back, responds-as-rule
 
 -- a frame's answer, and its reply memory
 abbrev pub toldIn : Answer → Framed
-toldIn (toCycle c) = record { length = 0; stored = 0; number = 0 }
 toldIn (toFrame a m) = a
+toldIn (toCycle a) = record { length = 0; stored = 0; number = 0 }
+toldIn (toList a) = record { length = 0; stored = 0; number = 0 }
+toldIn (toReturn a) = record { length = 0; stored = 0; number = 0 }
 
 abbrev pub replyIn : Answer → List ℕ
-replyIn (toCycle c) = []
 replyIn (toFrame a m) = m
+replyIn (toCycle a) = []
+replyIn (toList a) = []
+replyIn (toReturn a) = []
 
 no-read : (f : List ℕ) → isWrite f ≡ true → isRead f ≡ false
 no-read f is = ap (λ (n : ℕ). eqb n 0x5E) (eqb-true (function f) 0x5F is)
@@ -147,21 +151,21 @@ over reply more m four =
 
 -- what the write leaves of the part
 wrote-part :
-    (k : ℕ) (r : Request) (m p : List ℕ) → RequestFits r → length (requestBytes r) ≤ blockLimit → r .axis ≡ k
+    (k : ℕ) (r : Request) (m p : List ℕ) → RequestFits r → length (requestBytes r) ≤ blockLimit → r .axis ≡ k → exhausts r p ≡ false
     → frameRefusal k (writeOf r) (length m) p ≡ 0
     → framePart k (writeOf r) m p ≡ withResponse (response .write (worked r p .response)) (worked r p .part)
-wrote-part k r m p fit short mine e =
-    left-is k (writeOf r) m p e refl ∙ ap (λ (o : Outcome). o .part) (taken-is k (requestBytes r) p r (reads r fit short) (reads-back r fit short) mine)
+wrote-part k r m p fit short mine left e =
+    left-is k (writeOf r) m p e refl ∙ ap (λ (o : Outcome). o .part) (taken-is k (requestBytes r) p r (reads r fit short) (reads-back r fit short) mine left)
 
 pub merges-as-ruled : MergesAsRuled
 unfolding runEnd frameAnswer
-merges-as-ruled k r s m rest fit short mine room =
+merges-as-ruled k r s m rest fit short mine left room =
     let p : List ℕ = partOf k s in
     let given : List ℕ = responseBytes (worked r p .response) in
     let head : List ℕ = 0x5F ∷ 0 ∷ 0x2F ∷ length (requestBytes r) ∷ [] in
     let after-write : List ℕ = head ++ drop 4 m in
     let wide : 244 ≤ length after-write = omega (arith, length-append head (drop 4 m), length-drop 4 m) in
-    let two = responds-as-ruled k r s m [] 0xF0 after-write rest fit short mine room tt (answer-short r p fit) (lit≤ tt) wide in
+    let two = responds-as-ruled k r s m [] 0xF0 after-write rest fit short mine left room tt (answer-short r p fit) (lit≤ tt) wide in
     let one = in-turn k (writeOf r) m s _ _ after-write _ refl (two .acknowledged) refl (two .answered) in
     let reply : List ℕ = 0x5E ∷ 0 ∷ 0x2F ∷ length given ∷ given in
     let long : length reply ≡ 4 + length given = omega arith in
@@ -170,7 +174,7 @@ merges-as-ruled k r s m rest fit short mine room =
     let t = after kinds (frame k (writeOf r) m) s in
     let wrote = was-done (frame k (writeOf r) m) s (ap numberIn (two .acknowledged)) in
     let sent = was-done (frame k fetchAll after-write) t (ap numberIn (two .answered)) in
-    let written = own kinds sized (frame k (writeOf r) m) s (wrote .0) ∙ wrote-part k r m p fit short mine (wrote .1) in
+    let written = own kinds sized (frame k (writeOf r) m) s (wrote .0) ∙ wrote-part k r m p fit short mine left (wrote .1) in
     let size : length (worked r p .part) ≡ partSize = only-stored-changes r p fit .size ∙ length-window ((k - 1) * partSize) partSize s (fits (wrote .0)) in
     let fitting : length (response .write (worked r p .response)) ≤ blockLimit =
     subst (λ (l : List ℕ). length l ≤ blockLimit) (sym (response-bytes (worked r p .response))) (answer-short r p fit) in

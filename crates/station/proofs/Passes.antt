@@ -21,7 +21,7 @@ use Rattle.blocks.proofs.Request.{request-header}
 use Rattle.blocks.proofs.Demand.{requests, request-read}
 use Rattle.part.specs.Layout.{responseAt, responseRoom, waitingLength, waiting, withResponse}
 use Rattle.part.specs.WellFormed.{wellFormed}
-use Rattle.access.specs.Work.{worked, outcomeOf}
+use Rattle.access.specs.Work.{worked, exhaustsIn, outcomeOf}
 use Rattle.station.specs.Frame.{isWrite, blockOf, fetchOf, frameTests, frameRefusal, framePart}
 use Rattle.station.specs.Exchange.{fetchAll}
 use Rattle.station.proofs.Judged.{done-passes}
@@ -40,11 +40,11 @@ waits-all k p w =
 -- a write of a readable block of the farm's own axis, and a fetch of what waits, are refused by no number
 module _ (k : ℕ) (m p : List ℕ) (w : wellFormed k p ≡ true) (room : 244 ≤ length m) where
   pub write-passes :
-      (b : List ℕ) → waitingLength p ≡ 0 → length b ≤ blockLimit → readable blockLimit request b ≡ true → headerOf b .axis ≡ k
+      (b : List ℕ) → waitingLength p ≡ 0 → length b ≤ blockLimit → readable blockLimit request b ≡ true → headerOf b .axis ≡ k → exhaustsIn p (request .read b) ≡ false
       → frameRefusal k (0x5F ∷ 0 ∷ 0x2F ∷ length b ∷ b) (length m) p ≡ 0
   unfolding frameRefusal
-  write-passes b idle short reads mine =
-      rw (w, le-ltb (length m) 244 room, le-ltb (length (0x5F ∷ 0 ∷ 0x2F ∷ length b ∷ b)) 4 (omega arith), le-leb (length b) blockLimit short, eq-eqb (length b) (length b) refl, idle, reads, eq-eqb (headerOf b .axis) k mine)
+  write-passes b idle short reads mine left =
+      rw (w, le-ltb (length m) 244 room, le-ltb (length (0x5F ∷ 0 ∷ 0x2F ∷ length b ∷ b)) 4 (omega arith), le-leb (length b) blockLimit short, eq-eqb (length b) (length b) refl, idle, reads, eq-eqb (headerOf b .axis) k mine, left)
 
   pub fetch-passes : (n : ℕ) → (waitingLength p ≡ 0 → ⊥) → waitingLength p ≤ n → n ≤ blockLimit → frameRefusal k (fetchOf n) (length m) p ≡ 0
   unfolding frameRefusal
@@ -82,7 +82,7 @@ module _ (k : ℕ) (f m p : List ℕ) (e : frameRefusal k f (length m) p ≡ 0) 
       let my = mine k f (length m) p tested is in
       let read = request-read (blockOf f) (wrote .0) (wrote .1) in
       let axis : wrote .0 .axis ≡ k = sym (ap (λ (h : Header). h .axis) (request-header (blockOf f) (wrote .0) [] read)) ∙ my .axis in
-      let good = waits-as-ruled k (blockOf f) p (wrote .0) (formed k p was-formed .0) (my .reads) read axis in
+      let good = waits-as-ruled k (blockOf f) p (wrote .0) (formed k p was-formed .0) (my .reads) read axis (sym (ap (exhaustsIn p) read) ∙ my .left) in
       (ap waiting left-is ∙ good .0, ap (λ (l : List ℕ). readable blockLimit response (waiting l)) left-is ∙ good .1)
 
   pub something-waits : waitingLength (framePart k f m p) ≡ 0 → ⊥

@@ -11,7 +11,7 @@ use Rattle.station.specs.Parts.{partOf, stationRefusal}
 use Rattle.station.specs.Frame.{isWrite, refusedReply, replyOf, frameRefusal, frameAnswer, frameReply, framePart}
 use Rattle.station.specs.Exchange.{FrameDone, fetchAll, noRead}
 use Rattle.station.specs.Isolation.{answer}
-use Rattle.station.specs.Calls.{Call, exchange, frameBy, Answer, toCycle, toFrame, kindOf, owner, kinds}
+use Rattle.station.specs.Calls.{Call, exchange, frameBy, Answer, toCycle, toFrame, toList, toReturn, kindOf, owner, kinds}
 use Rattle.station.specs.Laws.{PastStays}
 use Rattle.station.proofs.Isolation.{took-answer, gave-answer}
 use Rattle.station.proofs.FrameOwes.{writes}
@@ -20,8 +20,10 @@ use Rattle.station.proofs.Refusals.{refused-by, refused-bound, reply-bo
 
 -- past a reply of its length, a reply memory is as m was
 Past : List ℕ → Answer → Type 0
-Past m (toCycle c) = Unit {0}
 Past m (toFrame a w) = (a .length ≤ 244) × (length w ≡ length m) × (drop (a .length) w ≡ drop (a .length) m)
+Past m (toCycle a) = Unit {0}
+Past m (toList a) = Unit {0}
+Past m (toReturn a) = Unit {0}
 
 past-put : (m reply : List ℕ) → length reply ≤ 244
     → (length reply ≤ 244) × (length (put m 0 reply) ≡ length m) × (drop (length reply) (put m 0 reply) ≡ drop (length reply) m)

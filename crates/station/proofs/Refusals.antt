@@ -1,7 +1,7 @@
 -- Every number but 0 settles the answer and leaves the station as it was; a block that is foreign or not readable is refused.
 use mathlib.Core.Path.{_≡_, refl, sym, ap, _∙_}
 use mathlib.Core.Bool.{Bool, true, false, cond, not, _&&_, _||_, true≢false}
-use mathlib.Core.List.{List, [], _∷_}
+use mathlib.Core.List.{List, [], _∷_, _++_}
 use Prim.Native.Nat.{ℕ, zero, suc, _+_, _-_, _*_, _≤_}
 use native.Mathlib.Omega.{arith}
 use native.Mathlib.Nat.{zero-add}
@@ -102,7 +102,7 @@ frame-tests false k f m s e = done-tests (frame k f m) s e
 frame-tests true k f m s e = past-two (ltb (length m) 244) (isRead f) 2 3 _ (done-tests (exchange k f m) s e)
 
 -- a write whose block is not the farm's to write
-not-mine : (merged : Bool) (k : ℕ) (f m s : List ℕ) → isWrite f ≡ true → (Mine k f → ⊥) → Refuses (frameBy merged k f m) s
+not-mine : (merged : Bool) (k : ℕ) (f m s : List ℕ) → isWrite f ≡ true → (Mine k f (partOf k s) → ⊥) → Refuses (frameBy merged k f m) s
 not-mine merged k f m s is isnt =
     is-refused (frameBy merged k f m) s (λ z. isnt (mine k f (length m) (partOf k s) (frame-tests merged k f m s z) is))
 
@@ -128,11 +128,12 @@ reply-bound f p n =
 pub reply-stands : ReplyStands
 unfolding frameReply frameRefusal
 reply-stands k f m p =
-    put-fits m 0 (replyOf f p (frameRefusal k f (length m) p))
+    let reply : List ℕ = replyOf f p (frameRefusal k f (length m) p) in
+    put-fits m 0 reply
     (one-of (λ (n : ℕ). 0 + length (replyOf f p n) ≤ length m) (not (wellFormed k p)) 2 _ (omega arith) (fit (frameTests k f (length m) p) (says k f (length m) p)))
-    ∙ rw zero-add
+    ∙ ap (λ (n : ℕ). reply ++ drop n m) (zero-add (length reply))
   where
     fit : (n : ℕ) → Says k f (length m) p n → 0 + length (replyOf f p n) ≤ length m
     fit n (small e) = rw e (omega arith)
-    fit n (framed low high room) = omega (arith, reply-bound f p n)
+    fit n (framed low room) = omega (arith, reply-bound f p n)
     fit n (worked e room my) = omega (arith, reply-bound f p n)

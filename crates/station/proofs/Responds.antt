@@ -22,7 +22,7 @@ use Rattle.blocks.proofs.Demand.{requests, request-read}
 use Rattle.part.specs.Layout.{responseRoom, waitingLength, waiting, withResponse}
 use Rattle.part.specs.WellFormed.{wellFormed}
 use Rattle.part.proofs.Laws.{waiting-length-is}
-use Rattle.access.specs.Work.{worked, Outcome, outcomeOf}
+use Rattle.access.specs.Work.{worked, Outcome, exhaustsIn, outcomeOf}
 use Rattle.access.proofs.Answers.{answer-fits, answer-short}
 use Rattle.station.specs.Parts.{farms, stationSize, partOf}
 use Rattle.station.specs.Frame.{lengthByte, blockOf, isWrite, fetchOf, frameRefusal, frameAnswer, frameReply, framePart}
@@ -127,23 +127,23 @@ module _ (k : ℕ) (low : 1 ≤ k) (high : k ≤ farms) (bs : List ℕ) (some : 
   many-calls (c ∷ cs) s b h = many-calls cs (after kinds c s) (b .1) (one-call c s (b .0) h)
 
 pub responds-as-ruled : RespondsAsRuled
-responds-as-ruled k r s m between n w rest fits short mine room calls enough most wide =
+responds-as-ruled k r s m between n w rest fits short mine left room calls enough most wide =
     let p : List ℕ = partOf k s in
     let home : Right k (length s) = record { low = rest .low; high = rest .high; size = rest .size } in
     let bytes = reads r fits short in
     let back = reads-back r fits short in
     let write = frame k (writeOf r) m in
-    let pass = write-passes k m p (rest .formed) room (requestBytes r) (rest .idle) short bytes (axis-is r fits short ∙ mine) in
+    let pass = write-passes k m p (rest .formed) room (requestBytes r) (rest .idle) short bytes (axis-is r fits short ∙ mine) (ap (exhaustsIn p) back ∙ left) in
     let first = written k (writeOf r) m p pass refl in
-    let came = taken-is k (requestBytes r) p r bytes back mine in
-    let left = own kinds sized write s home in
+    let came = taken-is k (requestBytes r) p r bytes back mine left in
+    let after-write = own kinds sized write s home in
     let bs : List ℕ = responseBytes (worked r p .response) in
     let waits : Waits k bs (after kinds write s) =
     record {
       size = length-after kinds sized write s ∙ rest .size;
-      formed = ap (wellFormed k) left ∙ owes write .formed p tt (rest .formed);
-      waits = ap waiting (left ∙ first .1)
-          ∙ (waits-as-ruled k (requestBytes r) p r (formed k p (rest .formed) .0) bytes back mine .0 ∙ response-bytes (worked r p .response));
+      formed = ap (wellFormed k) after-write ∙ owes write .formed p tt (rest .formed);
+      waits = ap waiting (after-write ∙ first .1)
+          ∙ (waits-as-ruled k (requestBytes r) p r (formed k p (rest .formed) .0) bytes back mine left .0 ∙ response-bytes (worked r p .response));
     } in
     let then = runEnd (machine kinds) between (after kinds write s) in
     let some : bs ≡ [] → ⊥ = λ e. let none = ap length e in omega arith in

@@ -2,7 +2,7 @@
 use mathlib.Core.Path.{_≡_, refl, _∙_, ap}
 use mathlib.Core.Bool.{Bool, true, false, not, _&&_, _||_, and-eq-true-iff}
 use mathlib.Core.List.{List, []}
-use Prim.Native.Nat.{ℕ, _≤_}
+use Prim.Native.Nat.{ℕ}
 use lib.Dec.{eqb, leb}
 use lib.ListN.{length}
 use borrow.Author.Tests.{eq-eqb}
@@ -12,33 +12,33 @@ use Rattle.blocks.specs.Request.{Request, request}
 use Rattle.blocks.specs.Response.{response}
 use Rattle.blocks.proofs.Sound.{request-sound}
 use Rattle.blocks.proofs.Page.{request-valid}
-use Rattle.blocks.proofs.Demand.{responses}
 use Rattle.blocks.specs.Place.{headerOf}
-use Rattle.part.specs.Layout.{waitingLength, waiting, withResponse}
+use Rattle.part.specs.Layout.{waitingLength, waiting}
 use Rattle.part.specs.WellFormed.{waitingFits}
+use Rattle.part.proofs.Held.{readable-short}
 use Rattle.part.proofs.Rule.{form-of}
 use Rattle.part.proofs.Laws.{waiting-is-given}
-use Rattle.access.specs.Work.{worked, Outcome, outcomeOf}
+use Rattle.access.specs.Work.{worked, Outcome, exhausts, outcomeOf}
 use Rattle.access.proofs.Answers.{answer-readable}
 use Rattle.access.proofs.Keeps.{only-stored-changes}
 use Rattle.station.specs.Frame.{isWrite, isRead, frameReply}
 use Rattle.station.specs.Laws.{WaitsAsRuled, SendsWaiting}
+use Rattle.station.proofs.Outcome.{done}
 use Rattle.station.proofs.Judged.{done-passes}
 
 -- a readable block of the axis itself is worked
 pub taken-is :
-    (k : ℕ) (s p : List ℕ) (r : Request) → readable blockLimit request s ≡ true → request .read s ≡ got r [] → r .axis ≡ k
-    → outcomeOf k s p ≡ record { number = 0; stored = worked r p .stored; part = withResponse (response .write (worked r p .response)) (worked r p .part) }
+    (k : ℕ) (s p : List ℕ) (r : Request) → readable blockLimit request s ≡ true → request .read s ≡ got r [] → r .axis ≡ k → exhausts r p ≡ false
+    → outcomeOf k s p ≡ done r p
 unfolding outcomeOf
-taken-is k s p r a e x = rw (a, e, eq-eqb (r .axis) k x)
+taken-is k s p r a e x left = rw (a, e, eq-eqb (r .axis) k x, left)
 
 pub waits-as-ruled : WaitsAsRuled
-waits-as-ruled k s p r h a e x =
+waits-as-ruled k s p r h a e x left =
     let fits = request-valid r .0 (request-sound .only s r [] e .0) in
     let bs = response .write (worked r p .response) in
     let good : readable blockLimit response bs ≡ true = answer-readable r p fits in
-    let short : length bs ≤ blockLimit = responses .exact bs .0 good .0 in
-    let is : waiting (outcomeOf k s p .part) ≡ bs = ap (λ (o : Outcome). waiting (o .part)) (taken-is k s p r a e x) ∙ waiting-is-given bs (worked r p .part) (only-stored-changes r p fits .size ∙ h) short in
+    let is : waiting (outcomeOf k s p .part) ≡ bs = ap (λ (o : Outcome). waiting (o .part)) (taken-is k s p r a e x left) ∙ waiting-is-given bs (worked r p .part) (only-stored-changes r p fits .size ∙ h) (readable-short bs good) in
     (is, ap (readable blockLimit response) is ∙ good)
 
 -- a read in its turn: something waits

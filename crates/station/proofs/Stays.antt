@@ -11,7 +11,7 @@ use lib.Seq.{take-at, drop-append-add}
 use borrow.Author.Tests.{eq-eqb, eqb-true, eqb-false, leb-true}
 use Rattle.codes.specs.Code.{AllOf}
 use Rattle.codes.proofs.Demand.{both}
-use Rattle.part.proofs.Laws.{fresh-length, fresh-well-formed}
+use Rattle.part.proofs.FreshPart.{fresh-length, fresh-well-formed}
 use Rattle.part.specs.Layout.{partSize}
 use Rattle.part.specs.Fresh.{freshPart}
 use Rattle.part.specs.WellFormed.{wellFormed}

@@ -1,4 +1,4 @@
--- Document 01, "The box and its edges", and document 02, R-3: the kinds of call that a station has, each said in one place: whose a call
+-- Document 01, "The box and its edges", and document 02, R-3 and R-7: the kinds of call that a station has, each said in one place: whose a call
 -- is, how it is tested and refused, and what it answers and leaves on its owner's part.
 use mathlib.Core.Bool.{Bool, true, false}
 use mathlib.Core.List.{List}
@@ -7,16 +7,22 @@ use lib.ListN.{length}
 use Rattle.codes.specs.Number.{put}
 use Rattle.station.specs.declared.CycleDone.{CycleDone}
 use Rattle.station.specs.declared.Framed.{Framed}
+use Rattle.station.specs.declared.Listed.{Listed}
+use Rattle.station.specs.declared.Returned.{Returned}
 use Rattle.station.specs.Cycle.{Sent, SentFits, cycleTests, refusedCycle, cycleAnswer, cyclePart}
 use Rattle.station.specs.Frame.{isRead, frameTests, refusedReply, frameAnswer, frameReply, framePart}
 use Rattle.station.specs.Exchange.{exchangeDone, exchangeTests}
+use Rattle.station.specs.Versions.{refusedList, listAnswer, refusedReturn, returnTests, returnAnswer, returnPart}
 use Rattle.station.specs.Isolation.{Kinds}
 
--- "Farm k's calls are its frames, the cycles of axis k and every later call made for that farm or axis": R-3's merged calls
+-- "Farm k's calls are its frames, the cycles of axis k and every later call made for that farm or axis": R-3's merged calls, R-7's lists
+-- and goings back
 pub data Call : Type 0 where
   cycle : (axis : ℕ) (i : Sent) → Call
   frame : (farm : ℕ) (f reply : List ℕ) → Call
   exchange : (farm : ℕ) (f reply : List ℕ) → Call
+  list : (farm : ℕ) → Call
+  goBack : (farm version : ℕ) → Call
 
 -- a frame by itself, or in a merged call
 abbrev pub frameBy : (merged : Bool) → ℕ → List ℕ → List ℕ → Call
@@ -27,11 +33,22 @@ frameBy true farm f m = exchange farm f m
 pub data Answer : Type 0 where
   toCycle : CycleDone → Answer
   toFrame : Framed → List ℕ → Answer
+  toList : Listed → Answer
+  toReturn : Returned → Answer
 
 -- the number that an answer gives; 0 where the call was done
 abbrev pub numberIn : Answer → ℕ
 numberIn (toCycle a) = a .told .number
 numberIn (toFrame a m) = a .number
+numberIn (toList a) = a .number
+numberIn (toReturn a) = a .number
+
+-- how many elements an answer says were stored
+abbrev pub storedIn : Answer → ℕ
+storedIn (toCycle a) = 0
+storedIn (toFrame a m) = a .stored
+storedIn (toList a) = 0
+storedIn (toReturn a) = a .stored
 
 -- what is said of a call
 pub record Kind : Type 1 where
@@ -81,6 +98,26 @@ kindOf (exchange farm f m) =
       refused = refusedFrame f m;
       answers = λ p. toFrame (exchangeDone farm f m p .told) (exchangeDone farm f m p .reply);
       leaves = λ p. exchangeDone farm f m p .part;
+      Fits = Unit {0};
+      fetches = false;
+    }
+kindOf (list farm) =
+    record {
+      owner = farm;
+      tests = λ p. 0;
+      refused = λ n. toList (refusedList n);
+      answers = λ p. toList (listAnswer farm p);
+      leaves = λ p. p;
+      Fits = Unit {0};
+      fetches = false;
+    }
+kindOf (goBack farm n) =
+    record {
+      owner = farm;
+      tests = returnTests n;
+      refused = λ r. toReturn (refusedReturn r);
+      answers = λ p. toReturn (returnAnswer farm n p);
+      leaves = returnPart farm n;
       Fits = Unit {0};
       fetches = false;
     }

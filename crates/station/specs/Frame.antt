@@ -1,4 +1,4 @@
--- Document 01, "Frames and refusal numbers": a frame of farm k worked on the part of its axis.
+-- Document 01, "Frames and refusal numbers", with number 15 of document 02, R-7: a frame of farm k worked on the part of its axis.
 use mathlib.Core.Bool.{Bool, cond, not, _&&_, _||_}
 use mathlib.Core.List.{List, [], _∷_}
 use Prim.Native.Nat.{ℕ}
@@ -11,7 +11,7 @@ use Rattle.blocks.specs.Request.{request}
 use Rattle.blocks.specs.Place.{headerOf}
 use Rattle.part.specs.Layout.{waitingLength, waiting, withResponse}
 use Rattle.part.specs.WellFormed.{wellFormed}
-use Rattle.access.specs.Work.{outcomeOf}
+use Rattle.access.specs.Work.{outcomeOf, exhaustsIn}
 use Rattle.station.specs.declared.Framed.{Framed}
 
 -- "Write: 5F, slot 0, index 47, length, block"; "Read: 5E 00 2F and the largest length wanted"
@@ -44,7 +44,7 @@ fetchOf n = 0x5E ∷ 0 ∷ 0x2F ∷ n ∷ []
 abbrev pub lengthFits : List ℕ → Bool
 lengthFits f = leb (lengthByte f) blockLimit && eqb (length (blockOf f)) (cond (isWrite f) (lengthByte f) 0)
 
--- numbers 3 to 11, where the part p is well-formed; m is the size of the reply memory
+-- numbers 3 to 11 and 15, where the part p is well-formed; m is the size of the reply memory
 abbrev pub frameTests : ℕ → List ℕ → ℕ → List ℕ → ℕ
 frameTests k f m p =
     cond (ltb m 244) 3
@@ -56,13 +56,14 @@ frameTests k f m p =
     (cond (isRead f && ltb (lengthByte f) (waitingLength p)) 9
     (cond (isWrite f && not (readable blockLimit request (blockOf f))) 10
     (cond (isWrite f && not (eqb (headerOf (blockOf f) .axis) k)) 11
-    0))))))))
+    (cond (isWrite f && exhaustsIn p (request .read (blockOf f))) 15
+    0)))))))))
 
 -- "The order of checks is the order of numbers.", from 2 on
 unfoldable pub frameRefusal : ℕ → List ℕ → ℕ → List ℕ → ℕ
 frameRefusal k f m p = cond (not (wellFormed k p)) 2 (frameTests k f m p)
 
--- "Returned": the code of a number from 5 to 11
+-- "Returned": the code of a number from 5 to 11; R-7: "a frame's reply to 15 is DF 80 A1 00"
 abbrev pub codeOf : ℕ → ℕ
 codeOf n =
     cond (eqb n 5) 0xB2
@@ -71,9 +72,10 @@ codeOf n =
     (cond (eqb n 8) 0xB5
     (cond (eqb n 9) 0xB7
     (cond (eqb n 10) 0xB8
-    0xB6)))))
+    (cond (eqb n 15) 0xA1
+    0xB6))))))
 
--- "Numbers 5 to 11 put DE (read) or DF (write), 80, code, 00 in the reply"; the others are answered by an empty reply
+-- "Numbers 5 to 11 put DE (read) or DF (write), 80, code, 00 in the reply", and so does 15; the others are answered by an empty reply
 abbrev pub refusedReply : List ℕ → ℕ → List ℕ
 refusedReply f n = cond (ltb n 5) [] (cond (isWrite f) 0xDF 0xDE ∷ 0x80 ∷ codeOf n ∷ 0 ∷ [])
 

@@ -1,10 +1,10 @@
--- What callers may cite of every call on a station in place of its text: from document 01, "Frames and refusal numbers", document 02, R-3
--- and R-4, and demands 1 to 3. Each is a statement here and a proof in proofs/.
+-- What callers may cite of every call on a station in place of its text: from document 01, "Frames and refusal numbers", document 02, R-3,
+-- R-4 and R-7, and demands 1 to 3. Each is a statement here and a proof in proofs/.
 use mathlib.Core.Path.{_≡_}
 use mathlib.Core.Bool.{Bool, true, false, cond, not, _&&_, _||_}
-use mathlib.Core.List.{List, [], _∷_, _++_}
-use mathlib.Core.Logic.{_⊎_}
-use Prim.Native.Nat.{ℕ, _-_, _≤_}
+use mathlib.Core.List.{List, [], _∷_, _++_, List·Memᴰ}
+use mathlib.Core.Logic.{_⊎_, _↔_}
+use Prim.Native.Nat.{ℕ, suc, _+_, _-_, _≤_, _<_}
 use lib.Dec.{eqb, leb}
 use lib.ListN.{length, take, drop}
 use Rattle.codes.specs.Code.{got, AllOf, readable}
@@ -16,19 +16,26 @@ use Rattle.blocks.specs.Page.{RequestFits, requestBytes, ResponseFits, response
 use Rattle.blocks.specs.Place.{headerOf}
 use Rattle.checker.specs.Check.{checkOf}
 use Rattle.drive.specs.Cycle.{cycleOf}
-use Rattle.part.specs.Layout.{partSize, waitingLength, waiting, withResponse}
+use Rattle.catalogue.specs.declared.Row.{Row}
+use Rattle.catalogue.specs.Table.{rows}
+use Rattle.catalogue.specs.Element.{elementOf}
+use Rattle.versions.specs.Layout.{isSetting, lastUsed}
+use Rattle.versions.specs.Version.{settingsOf, versionOf, isKept}
+use Rattle.part.specs.Layout.{partSize, waitingLength, waiting, withResponse, versions}
 use Rattle.part.specs.Record.{driveOf}
-use Rattle.access.specs.Work.{worked, outcomeOf}
+use Rattle.access.specs.Work.{worked, exhausts, outcomeOf, exhaustsIn}
+use Rattle.access.specs.Laws.{between}
 use Rattle.part.specs.Fresh.{freshPart}
 use Rattle.part.specs.WellFormed.{wellFormed}
 use Rattle.station.specs.Parts.{farms, stationSize, partOf, freshStation}
 use Rattle.station.specs.declared.Framed.{Framed}
+use Rattle.station.specs.declared.Listed.{Listed}
 use Rattle.station.specs.Frame.{isWrite, isRead, blockOf, fetchOf, frameRefusal, replyOf, frameReply}
 use Rattle.station.specs.Exchange.{fetchAll}
 use Rattle.station.specs.Cycle.{Sent, inputOf, cycleRefusal, cycleAnswer, cyclePart}
 use Rattle.station.specs.Runs.{runAnswers, runEnd}
 use Rattle.station.specs.Isolation.{Isolated, answer, after, machine}
-use Rattle.station.specs.Calls.{Call, frame, exchange, frameBy, Answer, toFrame, numberIn, kindOf, owner, kinds}
+use Rattle.station.specs.Calls.{Call, frame, exchange, list, goBack, frameBy, Answer, toFrame, toList, toReturn, numberIn, storedIn, kindOf, owner, kinds}
 
 -- Demand 2 for the calls of today
 abbrev pub IsolatedStation : Type 0
@@ -55,11 +62,14 @@ tableNumber c s =
 abbrev pub NumberedByTable : Type 0
 NumberedByTable = (c : Call) (s : List ℕ) → numberIn (answer kinds c s) ≡ tableNumber c s
 
--- and 10 and 11 where the block is worked (`outcomeOf`)
+-- and 10, 11 and 15 where the block is worked (`outcomeOf`)
 abbrev pub BlockNumbered : Type 0
 BlockNumbered =
     (k : ℕ) (s p : List ℕ)
-    → outcomeOf k s p .number ≡ cond (not (readable blockLimit request s)) 10 (cond (not (eqb (headerOf s .axis) k)) 11 0)
+    → outcomeOf k s p .number
+    ≡ cond (not (readable blockLimit request s)) 10
+    (cond (not (eqb (headerOf s .axis) k)) 11
+    (cond (exhaustsIn p (request .read s)) 15 0))
 
 -- a call is refused: its number is not 0, its answer follows from that number, and "the whole station" stays unchanged
 pub record Refuses (c : Call) (s : List ℕ) : Type 0 where
@@ -180,7 +190,7 @@ module _ (k : ℕ) (r : Request) (s m : List ℕ) (between : List Call) (n : ℕ
 abbrev pub RespondsAsRuled : Type 0
 RespondsAsRuled =
     (k : ℕ) (r : Request) (s m : List ℕ) (between : List Call) (n : ℕ) (w : List ℕ)
-    → AtRest k s → RequestFits r → length (requestBytes r) ≤ blockLimit → r .axis ≡ k → 244 ≤ length m
+    → AtRest k s → RequestFits r → length (requestBytes r) ≤ blockLimit → r .axis ≡ k → exhausts r (partOf k s) ≡ false → 244 ≤ length m
     → Between k between (after kinds (frame k (writeOf r) m) s)
     → length (responseBytes (worked r (partOf k s) .response)) ≤ n → n ≤ blockLimit → 244 ≤ length w
     → Responded k r s m between n w
@@ -224,7 +234,7 @@ pub record Merged (k : ℕ) (r : Request) (s m : List ℕ) : Type 0 where
 abbrev pub MergesAsRuled : Type 0
 MergesAsRuled =
     (k : ℕ) (r : Request) (s m : List ℕ)
-    → AtRest k s → RequestFits r → length (requestBytes r) ≤ blockLimit → r .axis ≡ k → 244 ≤ length m
+    → AtRest k s → RequestFits r → length (requestBytes r) ≤ blockLimit → r .axis ≡ k → exhausts r (partOf k s) ≡ false → 244 ≤ length m
     → Merged k r s m
 
 -- Document 02, R-4: "Every response of our own station passes for its request." The block of a reply, after its four bytes
@@ -249,6 +259,7 @@ MergedPasses =
 abbrev pub WaitsAsRuled : Type 0
 WaitsAsRuled =
     (k : ℕ) (s p : List ℕ) (r : Request) → length p ≡ partSize → readable blockLimit request s ≡ true → request .read s ≡ got r [] → r .axis ≡ k
+    → exhausts r p ≡ false
     → (waiting (outcomeOf k s p .part) ≡ response .write (worked r p .response)) × (readable blockLimit response (waiting (outcomeOf k s p .part)) ≡ true)
 
 -- and that every call which does not fetch leaves it waiting (`Owes`): a cycle whatever waits
@@ -260,3 +271,58 @@ abbrev pub SendsWaiting : Type 0
 SendsWaiting =
     (k : ℕ) (f m p : List ℕ) → frameRefusal k f (length m) p ≡ 0 → isWrite f ≡ false
     → (frameReply k f m p ≡ put m 0 (0x5E ∷ 0 ∷ 0x2F ∷ waitingLength p ∷ waiting p)) × (readable blockLimit response (waiting p) ≡ true)
+
+-- Document 02, R-7: the versions of farm k on a station
+abbrev pub versionsOf : ℕ → List ℕ → List ℕ
+versionsOf k s = versions (partOf k s)
+
+-- between the stations s and t farm k took a version: the next number is used, that version is the settings as they are on t, and those
+-- that are still kept are as they were
+pub record Took (k : ℕ) (s t : List ℕ) : Type 0 where
+  pub next : lastUsed (versionsOf k t) ≡ suc (lastUsed (versionsOf k s))
+  pub settings : versionOf (lastUsed (versionsOf k t)) (versionsOf k t) ≡ settingsOf (partOf k t)
+  pub kept :
+      (n : ℕ) → n ≤ lastUsed (versionsOf k s) → isKept n (versionsOf k t) ≡ true
+      → versionOf n (versionsOf k t) ≡ versionOf n (versionsOf k s)
+
+-- "A version is taken after every change that stores at least one element": of any kind,
+abbrev pub VersionTaken : Type 0
+VersionTaken = (c : Call) (s : List ℕ) → (storedIn (answer kinds c s) ≡ 0 → ⊥) → Took (owner c) s (after kinds c s)
+
+-- and no other call touches the versions of any farm
+abbrev pub VersionsStay : Type 0
+VersionsStay =
+    (c : Call) (s : List ℕ) → length s ≡ stationSize → storedIn (answer kinds c s) ≡ 0 → (k : ℕ) → 1 ≤ k → k ≤ farms
+    → versionsOf k (after kinds c s) ≡ versionsOf k s
+
+-- So a version is what the settings were after its change, whatever is called afterwards, for as long as it is kept.
+abbrev pub VersionStands : Type 0
+VersionStands =
+    (c : Call) (s : List ℕ) (later : List Call) → (storedIn (answer kinds c s) ≡ 0 → ⊥)
+    → let t = after kinds c s in
+    let n = lastUsed (versionsOf (owner c) t) in
+    let end = runEnd (machine kinds) later t in
+    isKept n (versionsOf (owner c) end) ≡ true → versionOf n (versionsOf (owner c) end) ≡ settingsOf (partOf (owner c) t)
+
+-- a fresh station has used no number
+abbrev pub FreshUsesNone : Type 0
+FreshUsesNone = (s : List ℕ) → length s ≡ stationSize → (k : ℕ) → 1 ≤ k → k ≤ farms → lastUsed (versionsOf k (freshStation s)) ≡ 0
+
+-- a list tells exactly which numbers are kept
+abbrev pub ListsKept : Type 0
+ListsKept =
+    (k : ℕ) (s : List ℕ) (a : Listed) → answer kinds (list k) s ≡ toList a → a .number ≡ 0
+    → (n : ℕ) → (isKept n (versionsOf k s) ≡ true) ↔ ((a .oldest ≤ n) × (n < a .oldest + a .kept))
+
+-- "go back to one, which stores all its elements (18 today) as a new version", element by element; "State, faults and words are not
+-- rewound": no other element of the table, and no byte between the parameters and the versions, is changed
+pub record WentBack (k n : ℕ) (s t : List ℕ) : Type 0 where
+  pub answered : answer kinds (goBack k n) s ≡ toReturn (record { stored = 18; version = suc (lastUsed (versionsOf k s)); number = 0 })
+  pub settings : settingsOf (partOf k t) ≡ versionOf n (versionsOf k s)
+  pub others :
+      (q : Row) → List·Memᴰ q rows → isSetting q ≡ false → (j : ℕ) → j < q .count
+      → elementOf q j (partOf k t) ≡ elementOf q j (partOf k s)
+  pub rest : between (partOf k t) ≡ between (partOf k s)
+
+abbrev pub GoesBack : Type 0
+GoesBack = (k n : ℕ) (s : List ℕ) → numberIn (answer kinds (goBack k n) s) ≡ 0 → WentBack k n s (after kinds (goBack k n) s)

@@ -2,6 +2,7 @@ pub mod Parts
 pub mod Frame
 pub mod Exchange
 pub mod Cycle
+pub mod Versions
 pub mod Runs
 pub mod Isolation
 pub mod Calls

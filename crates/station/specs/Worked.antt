@@ -1,5 +1,6 @@
 -- Document 01, "Journal program" and "Worked by hand": P1 to P8, the calls on a fresh station in order, what each answers, and how
--- the station ends, where R-6 of document 02 changes P5; frames of these as merged calls (R-3); and changes that store (R-6).
+-- the station ends, where R-6 of document 02 changes P5; frames of these as merged calls (R-3); changes that store (R-6); and a list and
+-- a going back (R-7).
 use mathlib.Core.Path.{_≡_}
 use mathlib.Core.Bool.{Bool, true, false}
 use mathlib.Core.List.{List, [], _∷_, _++_, map}
@@ -11,12 +12,13 @@ use Rattle.drive.specs.declared.states.State.the-variants.{S1}
 use Rattle.drive.specs.Speed.{still}
 use Rattle.drive.specs.Faults.{noFaults}
 use Rattle.catalogue.specs.Table.{offsetOf}
+use Rattle.part.specs.Layout.{withVersion}
 use Rattle.part.specs.Fresh.{freshPart}
 use Rattle.part.specs.Record.{wordsAt, putDrive}
 use Rattle.station.specs.Parts.{farms, stationSize, partOf, freshStation}
 use Rattle.station.specs.Runs.{runAnswers, runEnd}
 use Rattle.station.specs.Isolation.{machine}
-use Rattle.station.specs.Calls.{Call, cycle, frame, exchange, Answer, toCycle, toFrame, kinds}
+use Rattle.station.specs.Calls.{Call, cycle, frame, exchange, list, goBack, Answer, toCycle, toFrame, toList, toReturn, kinds}
 
 pub record WorkedCall : Type 0 where
   pub call : Call
@@ -153,10 +155,46 @@ wholeCalls =
     (0x5E ∷ 0x00 ∷ 0x2F ∷ 0x0C ∷ 0x0A ∷ 0x82 ∷ 0x01 ∷ 0x03 ∷ 0x40 ∷ 0x00 ∷ 0x44 ∷ 0x01 ∷ 0x00 ∷ 0x02 ∷ 0x40 ∷ 0x00 ∷ []) 0
     ∷ []
 
--- they leave it fresh but for 9900, of 7, and the marks, of 1, 2, 3000 and 500
+-- the part with four marks
+abbrev pub marked : List ℕ → List ℕ → List ℕ
+marked marks p = put p (offsetOf 30001) marks
+
+-- the first leaves it fresh but for the marks, of 1000, 2000, 3000 and 500, and that version (R-7)
+abbrev pub firstVersion : List ℕ
+firstVersion = withVersion (marked (0x03 ∷ 0xE8 ∷ 0x07 ∷ 0xD0 ∷ 0x0B ∷ 0xB8 ∷ 0x01 ∷ 0xF4 ∷ []) freshPart)
+
+-- the second leaves 9900 of 7, and marks of 1, 2, 3000 and 500, as the next
 abbrev pub wholePart : List ℕ
 wholePart =
-    put (put freshPart (offsetOf 9900) (0x00 ∷ 0x07 ∷ [])) (offsetOf 30001) (0x00 ∷ 0x01 ∷ 0x00 ∷ 0x02 ∷ 0x0B ∷ 0xB8 ∷ 0x01 ∷ 0xF4 ∷ [])
+    withVersion
+    (put (marked (0x00 ∷ 0x01 ∷ 0x00 ∷ 0x02 ∷ 0x0B ∷ 0xB8 ∷ 0x01 ∷ 0xF4 ∷ []) firstVersion) (offsetOf 9900) (0x00 ∷ 0x07 ∷ []))
 
 abbrev pub WholeByHand : Type 0
 WholeByHand = ByHand wholeCalls wholePart
+
+-- R-7, after these two: the list, a going back to version 1, one to a version that is not kept, and the list again
+abbrev pub listExample : ℕ → ℕ → ℕ → WorkedCall
+listExample farm oldest kept = record { call = list farm; answer = toList (record { oldest = oldest; kept = kept; number = 0 }) }
+
+abbrev pub returnExample : ℕ → ℕ → ℕ → ℕ → ℕ → WorkedCall
+returnExample farm n stored version number =
+    record { call = goBack farm n; answer = toReturn (record { stored = stored; version = version; number = number }) }
+
+abbrev pub versionCalls : List WorkedCall
+versionCalls =
+    listExample 1 1 0
+    ∷ wholeCalls
+    ++ (listExample 1 1 2
+    ∷ returnExample 1 1 18 3 0
+    ∷ returnExample 1 4 0 0 14
+    ∷ returnExample 1 0 0 0 14
+    ∷ listExample 1 1 3
+    ∷ listExample 2 1 0
+    ∷ [])
+
+-- they leave it as the first change did, and that as version 3
+abbrev pub versionPart : List ℕ
+versionPart = withVersion (put (marked (0x03 ∷ 0xE8 ∷ 0x07 ∷ 0xD0 ∷ 0x0B ∷ 0xB8 ∷ 0x01 ∷ 0xF4 ∷ []) wholePart) (offsetOf 9900) (0x00 ∷ 0x00 ∷ []))
+
+abbrev pub VersionsByHand : Type 0
+VersionsByHand = ByHand versionCalls versionPart

@@ -2,14 +2,15 @@
 ghost use mathlib.Core.Path.{_≡_};
 ghost use Rattle.station.specs.Parts.{stationSize, stationRefusal, freshNumber, freshStation};
 ghost use Rattle.station.specs.Isolation.{answer, after};
-ghost use Rattle.station.specs.Calls.{kinds, cycle, frame, exchange, toCycle, toFrame};
+ghost use Rattle.station.specs.Calls.{kinds, cycle, frame, exchange, list, goBack, toCycle, toFrame, toList, toReturn};
 
 mod part_cycle; // part_cycle.rt: a control cycle on the part of its axis
 mod part_frame; // part_frame.rt: a frame on the part of its farm
+mod part_versions; // part_versions.rt: a list and a going back on the part of their farm
 mod judge; // judge.rt: the tests 2 to 9 of a frame
 mod reply; // reply.rt: what is written in the reply memory
 
-// What a host is told of a cycle. This and the next are laid out as in C, since exported calls hand them on.
+// What a host is told of a cycle. This and the next three are laid out as in C, since exported calls hand them on.
 #[repr(C)]
 pub struct Cycled {
     pub rpm: i32,
@@ -23,6 +24,22 @@ pub struct Cycled {
 pub struct Framed {
     pub length: u16,
     pub stored: u16,
+    pub number: u8,
+}
+
+// The versions of a farm that are kept: the numbers oldest to oldest + kept - 1.
+#[repr(C)]
+pub struct Listed {
+    pub oldest: u16,
+    pub kept: u16,
+    pub number: u8,
+}
+
+// What a going back answers: how many elements were stored, and the number of the new version.
+#[repr(C)]
+pub struct Returned {
+    pub stored: u16,
+    pub version: u16,
     pub number: u8,
 }
 
@@ -140,4 +157,31 @@ pub fn exchange(station: &mut [u8], farm: u32, f: &[u8], reply: &mut [u8]) -> Fr
     let mut answer = written;
     answer.length = fetched.length;
     answer
+}
+
+// The versions of a farm that are kept.
+pub fn list(station: &[u8], farm: u32) -> Listed
+    ensures { λ r. ⌜ toList r ≡ answer kinds (list farm) (now (station .entry)) ⌝ }
+{
+    let n = refused(farm, station.len());
+    if n != 0 {
+        return part_versions::refused_list(n);
+    }
+    let start = (farm as usize - 1) * part::SIZE;
+    let end = start + part::SIZE;
+    part_versions::list_on(&station[start..end], farm as u8)
+}
+
+// Goes back to a version of a farm.
+pub fn go_back(station: &mut [u8], farm: u32, version: u32) -> Returned
+    ensures { λ r. ⌜ toReturn r ≡ answer kinds (goBack farm version) (now (station .entry)) ⌝ }
+    ensures { λ r. ⌜ now (station .exit) ≡ after kinds (goBack farm version) (now (station .entry)) ⌝ }
+{
+    let n = refused(farm, station.len());
+    if n != 0 {
+        return part_versions::refused_return(n);
+    }
+    let from = (farm as usize - 1) * part::SIZE;
+    let to = from + part::SIZE;
+    part_versions::go_back_on(&mut station[from..to], farm as u8, version)
 }

@@ -13,9 +13,6 @@ use super::Framed;
 use super::judge;
 use super::reply;
 
-// Where the response stands: at the end of a part.
-const RESPONSE: usize = part::SIZE - blocks::BLOCK_LIMIT;
-
 // A write that passed numbers 2 to 9.
 fn write_on(part: &mut [u8], k: u8, f: &[u8], reply: &mut [u8]) -> Framed
     requires { ⌜ (4 ≤ length (now f)) × (isWrite (now f) ≡ true) ⌝ }
@@ -43,9 +40,9 @@ pub(crate) fn read_on(part: &mut [u8], reply: &mut [u8]) -> Framed
     ensures { λ r. ⌜ now (part .exit) ≡ withResponse [] (now (part .entry)) ⌝ }
 {
     let n = part::waiting_length(part);
-    let e = RESPONSE + codes::wide(n);
+    let e = part::RESPONSE + codes::wide(n);
     reply::put_four(reply, judge::READ, 0, judge::INDEX, n);
-    codes::put_bytes(reply, judge::HEAD, &part[RESPONSE..e]);
+    codes::put_bytes(reply, judge::HEAD, &part[part::RESPONSE..e]);
     part::clear_response(part);
     Framed {
         length: 4 + n as u16,

@@ -33,7 +33,7 @@ pub(crate) fn put_four(reply: &mut [u8], a: u8, b: u8, c: u8, d: u8)
     reply[3] = d;
 }
 
-// The code of a refusal number from 5 to 11.
+// The code of a refusal number from 5 to 11, or 15.
 fn code_of(n: u8) -> u8
     ensures { λ r. ⌜ r ≡ codeOf n ⌝ }
 {
@@ -44,6 +44,7 @@ fn code_of(n: u8) -> u8
         8 => 0xB5,
         9 => 0xB7,
         10 => 0xB8,
+        15 => 0xA1,
         _ => 0xB6,
     }
 }

@@ -4,6 +4,7 @@ use denote.Ref.{now}
 use native.Mathlib.Omega.{arith}
 use lib.ListN.{length}
 use Rattle.catalogue.specs.Table.{rows, parameterBytes}
+use Rattle.versions.specs.Layout.{lastAt}
 use Rattle.station.specs.Calls.{kinds, cycle, toCycle}
 use Rattle.station.proofs.Answers.{takes, refuses, does, lent}
 use mir.Syntax.{w16}
@@ -43,7 +44,7 @@ part-cycle-on-start : tie.Need-part-cycle-on-start
 part-cycle-on-start c = search needs
 
 part-cycle-on-end : tie.Need-part-cycle-on-end
-unfolding parameterBytes rows
+unfolding parameterBytes rows lastAt
 part-cycle-on-end c =
     let a = c .before .before .before .args in
     let t = takes (a .axis) (length (now (a .station))) (sym (c .if1 .left) ∙ c .before .refused .ensures) in
@@ -62,7 +63,7 @@ same-length : tie.Need-same-length
 same-length c = search needs
 
 returns-2 : tie.Need-returns-2
-unfolding parameterBytes rows
+unfolding parameterBytes rows lastAt
 returns-2 c =
     let a = c .before .before .before .before .before .before .before .args in
     let h = c .before .before .before .before .before .before .before .fits in

@@ -4,6 +4,7 @@ use denote.Ref.{now}
 use native.Mathlib.Omega.{arith}
 use lib.Seq.{length-take-le}
 use Rattle.catalogue.specs.Table.{rows, parameterBytes}
+use Rattle.versions.specs.Layout.{lastAt}
 use Rattle.station.proofs.Answers.{lent}
 use Rattle.station.proofs.Exchanges.{unread-bytes, stops, home, hands, ends}
 use borrow.Author.Needs.{needs}
@@ -56,7 +57,7 @@ part-read-on-start : tie.Need-part-read-on-start
 part-read-on-start c = search needs
 
 part-read-on-end : tie.Need-part-read-on-end
-unfolding parameterBytes rows
+unfolding parameterBytes rows lastAt
 part-read-on-end c =
     let a = c .before .before .before .before .before .before .before .before .before .before .before .before .before .before .args in
     let w = c .before .before .before .before .before .before .frame in
@@ -65,7 +66,7 @@ part-read-on-end c =
     omega (arith, h .low, h .high, h .size)
 
 read-on-requires : tie.Need-read-on-requires
-unfolding parameterBytes rows
+unfolding parameterBytes rows lastAt
 read-on-requires c κs =
     let a = c .before .before .before .before .before .before .before .before .before .before .before .before .before .before .before .before .args in
     let w = c .before .before .before .before .before .before .before .before .frame in
@@ -80,7 +81,7 @@ same-length-4 : tie.Need-same-length-4
 same-length-4 c = search needs
 
 returns-2 : tie.Need-returns-2
-unfolding parameterBytes rows
+unfolding parameterBytes rows lastAt
 returns-2 c =
     let a = c .before .before .before .before .before .before .before .before .before .before .before .before .before .before .before .before .before .before .before .before .before .args in
     let w = c .before .before .before .before .before .before .before .before .before .before .before .before .before .frame in

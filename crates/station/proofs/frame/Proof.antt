@@ -5,6 +5,7 @@ use denote.Ref.{now}
 use native.Mathlib.Omega.{arith}
 use lib.ListN.{length}
 use Rattle.catalogue.specs.Table.{rows, parameterBytes}
+use Rattle.versions.specs.Layout.{lastAt}
 use Rattle.station.specs.Calls.{kinds, frame, toFrame}
 use Rattle.station.proofs.Answers.{takes, refuses, does, lent, refusal-small, empty-refused}
 use borrow.Author.Needs.{needs}
@@ -44,7 +45,7 @@ part-frame-on-start : tie.Need-part-frame-on-start
 part-frame-on-start c = search needs
 
 part-frame-on-end : tie.Need-part-frame-on-end
-unfolding parameterBytes rows
+unfolding parameterBytes rows lastAt
 part-frame-on-end c =
     let a = c .before .before .before .before .before .args in
     let t = takes (a .farm) (length (now (a .station))) (sym (c .if1 .left) ∙ c .before .refused .ensures) in
@@ -66,7 +67,7 @@ same-length-2 : tie.Need-same-length-2
 same-length-2 c = search needs
 
 returns-2 : tie.Need-returns-2
-unfolding parameterBytes rows
+unfolding parameterBytes rows lastAt
 returns-2 c =
     let a = c .before .before .before .before .before .before .before .before .before .before .before .before .args in
     let s = now (a .station) in

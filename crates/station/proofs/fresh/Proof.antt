@@ -6,6 +6,7 @@ use native.Mathlib.Omega.{arith}
 use lib.ListN.{length, take, drop, length-take, length-drop}
 use borrow.Author.Tests.{eq-eqb, ne-eqb}
 use Rattle.catalogue.specs.Table.{rows, parameterBytes}
+use Rattle.versions.specs.Layout.{lastAt}
 use Rattle.part.specs.Layout.{partSize}
 use Rattle.station.specs.Parts.{farms, stationSize, freshParts, freshNumber, freshStation}
 use Rattle.station.proofs.FreshParts.{made, length-kept, next-part, all-made}
@@ -20,11 +21,11 @@ abbrev μ-loop : tie.MeasureT-loop
 μ-loop station₀ i₀ station i = farms - i
 
 returns : tie.Need-returns Inv-loop μ-loop
-unfolding freshNumber freshStation parameterBytes rows
+unfolding freshNumber freshStation parameterBytes rows lastAt
 returns c = rw (ne-eqb _ _ (c .if1 .taken)) (refl, refl)
 
 loop-holds : tie.Need-loop-holds Inv-loop μ-loop
-unfolding parameterBytes rows
+unfolding parameterBytes rows lastAt
 loop-holds c = (search needs, refl, refl)
 
 mul-a : tie.Need-mul-a Inv-loop μ-loop
@@ -40,7 +41,7 @@ part-fresh-start : tie.Need-part-fresh-start Inv-loop μ-loop
 part-fresh-start c = search needs
 
 part-fresh-end : tie.Need-part-fresh-end Inv-loop μ-loop
-unfolding parameterBytes rows
+unfolding parameterBytes rows lastAt
 part-fresh-end c = omega arith
 
 fresh-requires : tie.Need-fresh-requires Inv-loop μ-loop
@@ -53,7 +54,7 @@ loop-less : tie.Need-loop-less Inv-loop μ-loop
 loop-less c = search needs
 
 loop-again : tie.Need-loop-again Inv-loop μ-loop
-unfolding parameterBytes rows
+unfolding parameterBytes rows lastAt
 loop-again c =
     let l = c .before .before .before .before .before .loop in
     let f = c .before .before .fresh in
@@ -69,7 +70,7 @@ same-length : tie.Need-same-length Inv-loop μ-loop
 same-length c = c .before .loop .inv .1
 
 returns-2 : tie.Need-returns-2 Inv-loop μ-loop
-unfolding freshNumber freshStation parameterBytes rows
+unfolding freshNumber freshStation parameterBytes rows lastAt
 returns-2 c =
     let l = c .before .loop in
     let n : length (now (c .before .before .before .before .args .station)) ≡ stationSize = c .before .before .if1 .left in

@@ -1,4 +1,4 @@
--- Each test of the code is one of the definition, in its order; the tests 10 and 11 that are left give no early number.
+-- Each test of the code is one of the definition, in its order; the tests 10, 11 and 15 that are left give no early number.
 use mathlib.Core.Path.{sym, _∙_}
 use borrow.Author.Tests.{lt-ltb, le-ltb, eq-eqb, ne-eqb, not-true, not-false}
 use Rattle.station.specs.Frame.{frameRefusal}
@@ -158,7 +158,7 @@ returns-10 c =
       sym (c .before .before .before .before .before .before .before .before .before .length-fits .ensures) ∙ not-false (c .before .before .before .before .before .before .before .before .before .length-fits .result) (c .before .before .before .before .before .before .before .before .if7 .left),
       sym (rw (c .before .before .before .before .before .before .before .waiting-length .ensures) at (c .before .before .before .before .before .out-of-turn .ensures)) ∙ c .before .before .before .before .if8 .left,
       sym (rw (c .before .before .before .before .before .before .before .waiting-length .ensures) at (c .before .wants-fewer .ensures)) ∙ c .if9 .left,
-    ) (block-late (c .before .before .before .before .before .before .before .before .before .before .before .before .before .before .before .before .before .before .before .before .before .before .before .args .k) (now (c .before .before .before .before .before .before .before .before .before .before .before .before .before .before .before .before .before .before .before .before .before .before .before .args .f)))
+    ) (block-late (c .before .before .before .before .before .before .before .before .before .before .before .before .before .before .before .before .before .before .before .before .before .before .before .args .k) (now (c .before .before .before .before .before .before .before .before .before .before .before .before .before .before .before .before .before .before .before .before .before .before .before .args .f)) (now (c .before .before .before .before .before .before .before .before .before .before .before .before .before .before .before .before .before .before .before .before .before .before .before .args .part)))
 
 pub judge-spec : {M : Type 1} → statement M
 judge-spec =

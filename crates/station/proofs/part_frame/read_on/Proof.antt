@@ -4,6 +4,7 @@ use Prim.Native.Nat.{ℕ}
 use denote.Ref.{now}
 use native.Mathlib.Omega.{arith}
 use Rattle.catalogue.specs.Table.{rows, parameterBytes}
+use Rattle.versions.specs.Layout.{lastAt}
 use Rattle.station.proofs.Frames.{handed}
 use borrow.Author.Needs.{needs}
 use Rattle.station.proofs.part_frame.read_on.Statement.{statement}
@@ -28,7 +29,7 @@ part-put-bytes-start : tie.Need-part-put-bytes-start
 part-put-bytes-start c = search needs
 
 part-put-bytes-end : tie.Need-part-put-bytes-end
-unfolding parameterBytes rows
+unfolding parameterBytes rows lastAt
 part-put-bytes-end c = search needs
 
 put-bytes-requires : tie.Need-put-bytes-requires
@@ -50,7 +51,7 @@ same-length-2 : tie.Need-same-length-2
 same-length-2 c = search needs
 
 returns : tie.Need-returns
-unfolding parameterBytes rows
+unfolding parameterBytes rows lastAt
 returns c =
     let a = c .before .before .before .before .before .before .before .before .before .before .before .before .before .before .before .before .before .before .before .args in
     let w = c .before .before .before .before .before .before .before .before .before .before .before .before .before .before .before .waiting-length in

@@ -22,14 +22,18 @@ returns-6 : tie.Need-returns-6
 returns-6 c = rw (c .match .keys6)
 
 returns-7 : tie.Need-returns-7
-returns-7 c =
+returns-7 c = rw (c .match .keys7)
+
+returns-8 : tie.Need-returns-8
+returns-8 c =
     rw (
-      ne-eqb _ 5 (c .match .rest .0 .0 .0 .0 .0 .1),
-      ne-eqb _ 6 (c .match .rest .0 .0 .0 .0 .1),
-      ne-eqb _ 7 (c .match .rest .0 .0 .0 .1),
-      ne-eqb _ 8 (c .match .rest .0 .0 .1),
-      ne-eqb _ 9 (c .match .rest .0 .1),
-      ne-eqb _ 10 (c .match .rest .1),
+      ne-eqb _ 5 (c .match .rest .0 .0 .0 .0 .0 .0 .1),
+      ne-eqb _ 6 (c .match .rest .0 .0 .0 .0 .0 .1),
+      ne-eqb _ 7 (c .match .rest .0 .0 .0 .0 .1),
+      ne-eqb _ 8 (c .match .rest .0 .0 .0 .1),
+      ne-eqb _ 9 (c .match .rest .0 .0 .1),
+      ne-eqb _ 10 (c .match .rest .0 .1),
+      ne-eqb _ 15 (c .match .rest .1),
     )
 
 pub code-of-spec : {M : Type 1} → statement M
@@ -42,4 +46,5 @@ code-of-spec =
     returns-4
     returns-5
     returns-6
-    returns-7)
+    returns-7
+    returns-8)
