@@ -5,7 +5,8 @@
  * reply), four of 16 (STW1, NSOLL_A, NIST_A, fault), then the station, the frame and the reply memory. All low byte first.
  * Its answer: size (64 bits), rpm (32), status, length and stored (16 each), state and number (8 each), then the station and
  * the reply memory as the call left them. Bytes around both are watched: a call that touches one ends the program.
- * A check has its request where the others have the frame, and its response where they have the reply. */
+ * A check has its request where the others have the frame, and its response where they have the reply. A list answers the oldest
+ * number as length and how many are kept as stored. A going back has its version as flags, and answers the new one as length. */
 #include "llinkhiro.h"
 
 #include <stdio.h>
@@ -13,7 +14,7 @@
 #include <string.h>
 
 enum { GUARD = 64, PATTERN = 0xA5, MOST = 1 << 20 };
-enum { SIZE, FRESH, CYCLE, FRAME, EXCHANGE, CHECK };
+enum { SIZE, FRESH, CYCLE, FRAME, EXCHANGE, CHECK, VERSIONS, GO_BACK };
 
 /* A memory to lend, with a guard on both sides. */
 struct lent {
@@ -75,6 +76,20 @@ static void untouched(struct lent memory)
             stop("a call wrote outside the memory that it was lent");
 }
 
+static struct llinkhiro_framed listed(struct lent station, uint32_t farm)
+{
+    struct llinkhiro_listed l = llinkhiro_versions(station.at, station.len, farm);
+
+    return (struct llinkhiro_framed){ l.oldest, l.kept, l.number };
+}
+
+static struct llinkhiro_framed returned(struct lent station, uint32_t farm, uint32_t version)
+{
+    struct llinkhiro_returned r = llinkhiro_go_back(station.at, station.len, farm, version);
+
+    return (struct llinkhiro_framed){ r.version, r.stored, r.number };
+}
+
 static void serve(unsigned kind)
 {
     static uint8_t *rooms[3];
@@ -100,6 +115,10 @@ static void serve(unsigned kind)
         f = llinkhiro_exchange(station.at, station.len, owner, frame.at, frame.len, reply.at, reply.len);
     else if (kind == CHECK)
         c.number = llinkhiro_check(frame.at, frame.len, reply.at, reply.len);
+    else if (kind == VERSIONS)
+        f = listed(station, owner);
+    else if (kind == GO_BACK)
+        f = returned(station, owner, flags);
     untouched(station);
     untouched(frame);
     untouched(reply);

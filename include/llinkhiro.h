@@ -1,8 +1,9 @@
 /*
  * Llinkhiro: the logic of a PROFIdrive 4.1 station with 16 axes. Farm k owns axis k.
  *
- * Two things are done with a station: a control cycle for one axis (llinkhiro_cycle) and a DP-V1 frame from one farm
- * (llinkhiro_frame; llinkhiro_exchange is a write and the fetch of its response in one call). Another call makes the station
+ * Three things are done with a station: a control cycle for one axis (llinkhiro_cycle), a DP-V1 frame from one farm
+ * (llinkhiro_frame; llinkhiro_exchange is a write and the fetch of its response in one call), and the old settings of one farm
+ * (llinkhiro_versions lists those that are kept, llinkhiro_go_back goes back to one). Another call makes the station
  * (llinkhiro_fresh). Apart from all stations, llinkhiro_check holds a response block against the request that it answers, of
  * whatever maker's drive. #include <llinkhiro.h>, and link with -lllinkhiro.
  *
@@ -37,9 +38,22 @@
  *   10  block not readable                                                      B8
  *   11  the block's axis is not the caller's                                    B6
  *   12  cycle flags above 3
+ *   14  the version is not kept
+ *   15  the numbers of the versions are used up (the last used is 65535), and an
+ *       element would be stored                                                 A1
  *
- * llinkhiro_fresh gives 0 and 2; llinkhiro_cycle 0, 1, 2 and 12; llinkhiro_frame 0 to 11; llinkhiro_exchange 0 to 8, 10, 11.
+ * llinkhiro_fresh gives 0 and 2; llinkhiro_cycle 0, 1, 2 and 12; llinkhiro_frame 0 to 11 and 15; llinkhiro_exchange 0 to 8, 10,
+ * 11 and 15; llinkhiro_versions 0, 1 and 2; llinkhiro_go_back 0, 1, 2, 14 and 15. 13 is no call's number: it ends a season report.
  * llinkhiro_check refuses nothing and has numbers of its own, which stand beside it below.
+ *
+ * SETTINGS AND THEIR VERSIONS
+ *
+ * The settings of a farm are the elements of its axis that can be written: PNU 9900, 9901, 10111 and 30001 to 30004, 18 in all.
+ * After every call that stores at least one of them (a frame, a merged call, a going back) all 18 are kept as a version, also
+ * where none of them became another number. The versions of a farm are numbered 1, 2, 3 and so on to 65535 from a fresh station
+ * on, each number used once, and the last 16 are kept. A fresh station has none: the fresh settings are no version.
+ * When the numbers are used up, nothing can be stored any more (15): reads, and changes of which every address fails, are
+ * answered as ever, and so are cycles. Only llinkhiro_fresh, which makes all farms fresh, starts the numbers again.
  */
 #ifndef LLINKHIRO_H
 #define LLINKHIRO_H
@@ -56,8 +70,8 @@ size_t llinkhiro_size(void);
 
 /*
  * Makes the station fresh: every axis in state S1, all fault situations empty, no response waiting, parameters at their fresh
- * values. What stood there before does not matter. Answers 0, or 2 where station_len is not llinkhiro_size(); then nothing
- * is written.
+ * values, no versions. What stood there before does not matter. Answers 0, or 2 where station_len is not llinkhiro_size(); then
+ * nothing is written.
  */
 uint8_t llinkhiro_fresh(uint8_t *station, size_t station_len);
 
@@ -116,7 +130,7 @@ struct llinkhiro_framed {
  * (8 to 244 bytes in all). The response waits no more.
  * In the blocks of both, an odd number of byte values is followed by one zero byte, which their count leaves out.
  * Refused by 1 to 4: the reply is empty (length 0), and the reply memory is not touched.
- * Refused by 5 to 11: the reply is DE (to a read) or DF (to a write), 80, the code in the table above, 00 (4 bytes).
+ * Refused by 5 to 11 or 15: the reply is DE (to a read) or DF (to a write), 80, the code in the table above, 00 (4 bytes).
  *
  * The bytes of the reply memory after the reply are as they were. Changes the part of that farm's axis and no other.
  */
@@ -138,6 +152,42 @@ struct llinkhiro_framed llinkhiro_frame(uint8_t *station, size_t station_len, ui
  */
 struct llinkhiro_framed llinkhiro_exchange(uint8_t *station, size_t station_len, uint32_t farm,
                                            const uint8_t *frame, size_t frame_len, uint8_t *reply, size_t reply_len);
+
+/*
+ * The versions of a farm that are kept: the numbers oldest, oldest + 1, .. oldest + kept - 1, of which the last is the last used.
+ *   oldest  the oldest number kept; where none is kept, 1: the number that the first version will have
+ *   kept    how many are kept, 0 to 16
+ *   number  0, or the refusal: 1 or 2; then oldest and kept are 0
+ * Nothing is written.
+ */
+struct llinkhiro_listed {
+    uint16_t oldest;
+    uint16_t kept;
+    uint8_t number;
+};
+
+struct llinkhiro_listed llinkhiro_versions(const uint8_t *station, size_t station_len, uint32_t farm);
+
+/*
+ * What a going back answers. Where it is refused, number is the refusal (1, 2, 14 or 15, tested in this order) and all else is 0.
+ *   stored   the elements stored: all settings, 18
+ *   version  the number of the new version
+ *   number   0, or the refusal
+ */
+struct llinkhiro_returned {
+    uint16_t stored;
+    uint16_t version;
+    uint8_t number;
+};
+
+/*
+ * Goes back to a version: stores all settings of it, equal or not, and keeps them as a new version, so that a going back can
+ * itself be gone back from. With 16 kept, the oldest is then kept no more, even where it is the one gone back to.
+ *   version  the number of a version that is kept; any other, 0 and 65537 included, is refused (14)
+ * The state, the faults, the words of the last cycle and a response that waits are left as they are, and no axis need be idle.
+ * Changes the part of that farm's axis and no other.
+ */
+struct llinkhiro_returned llinkhiro_go_back(uint8_t *station, size_t station_len, uint32_t farm, uint32_t version);
 
 /*
  * Whether a response block answers a request block. Both are blocks, without the four bytes of a frame before them, of any

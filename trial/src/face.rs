@@ -29,12 +29,36 @@ pub struct Framed {
     pub number: u8,
 }
 
+/// The versions that are kept: the numbers `oldest` to `oldest + kept - 1`.
+#[derive(Clone, Copy, Debug, PartialEq, Eq)]
+pub struct Listed {
+    /// The oldest number, or the first to come where none is kept.
+    pub oldest: u16,
+    /// How many are kept.
+    pub kept: u16,
+    /// Refusal number, 0 for none.
+    pub number: u8,
+}
+
+/// The answer of a going back.
+#[derive(Clone, Copy, Debug, PartialEq, Eq)]
+pub struct Returned {
+    /// Elements stored.
+    pub stored: u16,
+    /// The number of the new version.
+    pub version: u16,
+    /// Refusal number, 0 for none.
+    pub number: u8,
+}
+
 const SIZE: u8 = 0;
 const FRESH: u8 = 1;
 const CYCLE: u8 = 2;
 const FRAME: u8 = 3;
 const EXCHANGE: u8 = 4;
 const CHECK: u8 = 5;
+const VERSIONS: u8 = 6;
+const GO_BACK: u8 = 7;
 
 /// What is sent of a call, beside the memories.
 #[derive(Default)]
@@ -143,6 +167,21 @@ pub fn frame(station: &mut [u8], farm: u32, frame: &[u8], reply: &mut [u8]) -> F
 /// Works one write of a farm and fetches its response.
 pub fn exchange(station: &mut [u8], farm: u32, frame: &[u8], reply: &mut [u8]) -> Framed {
     send(EXCHANGE, station, farm, frame, reply)
+}
+
+/// Lists a farm's versions that are kept.
+pub fn versions(station: &[u8], farm: u32) -> Listed {
+    let mut lent = station.to_vec();
+    let heard = send(VERSIONS, &mut lent, farm, &[], &mut []);
+    assert_eq!(lent, station, "a list wrote to the station");
+    Listed { oldest: heard.length, kept: heard.stored, number: heard.number }
+}
+
+/// Goes back to a version of a farm.
+pub fn go_back(station: &mut [u8], farm: u32, version: u32) -> Returned {
+    let asked = Asked { owner: farm, flags: version, ..Asked::default() };
+    let heard = call(GO_BACK, &asked, station, &[], &mut []).framed;
+    Returned { stored: heard.stored, version: heard.length, number: heard.number }
 }
 
 /// Holds a response block against a request block: 0 for yes, else the number of the first check that failed.

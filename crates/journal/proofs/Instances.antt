@@ -4,15 +4,18 @@ use mathlib.Core.Bool.{true, false}
 use mathlib.Core.List.{List, [], _∷_, _++_, append-nil}
 use Prim.Native.Nat.{ℕ}
 use native.Mathlib.Omega.{arith}
+use lib.Dec.{lit<}
 use lib.ListN.{length}
 use Rattle.codes.specs.Code.{AllOf}
+use Rattle.station.specs.declared.Listed.{Listed}
 use Rattle.station.specs.Parts.{farms, freshParts}
-use Rattle.station.specs.Calls.{frame, exchange, toFrame}
+use Rattle.station.specs.Calls.{frame, exchange, goBack, toFrame, toList, toReturn, kinds}
+use Rattle.station.specs.Isolation.{answer}
 use Rattle.journal.specs.Text.{decimal}
 use Rattle.journal.specs.Line.{nextRecord, pastRecord, replyRoom, lineOf, isRecord, callOf, recordLine, badLine}
 use Rattle.journal.specs.History.{Parted, parted, replayFrom, replayOf}
 use Rattle.journal.specs.Laws.{joined, pieces, played}
-use Rattle.journal.proofs.Records.{merged-records}
+use Rattle.journal.proofs.Records.{merged-records, return-records, none-lists}
 use Rattle.journal.proofs.Whole.{parted-as-written, every-journal, enough-bytes, plays-whole, replays-whole}
 
 -- PartedAsWritten: two records and a byte that is none
@@ -68,3 +71,19 @@ module _ (zeros : List ℕ) where
 refused-line : lineOf (exchange 1 [] replyRoom) (toFrame (record { length = 0; stored = 0; number = 4 }) []) ≡ 0x65 ∷ 0x20 ∷ 0x31 ∷ 0x20 ∷ 0x30 ∷ 0x20 ∷ 0x2D ∷ 0x0A ∷ []
 unfolding decimal
 refused-line = merged-records 1 0 [] .lines (record { length = 0; stored = 0; number = 4 }) [] .1
+
+-- ReturnRecords: a record of both bytes of its number; and the lines `g 1 18 5` and `x 14`
+back-record : (isRecord (4 ∷ 1 ∷ 2 ∷ 3 ∷ []) ≡ true) × (callOf (4 ∷ 1 ∷ 2 ∷ 3 ∷ []) ≡ goBack 1 515)
+back-record = let r = return-records 1 2 3 (lit< tt) (lit< tt) in (r .whole, r .call)
+
+back-line : lineOf (goBack 1 2) (toReturn (record { stored = 18; version = 5; number = 0 })) ≡ 0x67 ∷ 0x20 ∷ 0x31 ∷ 0x20 ∷ 0x31 ∷ 0x38 ∷ 0x20 ∷ 0x35 ∷ 0x0A ∷ []
+unfolding decimal
+back-line = return-records 1 0 2 (lit< tt) (lit< tt) .done (record { stored = 18; version = 5; number = 0 }) refl
+
+not-kept-line : lineOf (goBack 1 2) (toReturn (record { stored = 0; version = 0; number = 14 })) ≡ 0x78 ∷ 0x20 ∷ 0x31 ∷ 0x34 ∷ 0x0A ∷ []
+unfolding decimal
+not-kept-line = return-records 1 0 2 (lit< tt) (lit< tt) .refused (record { stored = 0; version = 0; number = 14 }) (λ e. omega arith)
+
+-- NoneLists: not even of bytes that are no record
+no-list : (s : List ℕ) (l : Listed) → answer kinds (callOf []) s ≡ toList l → ⊥
+no-list s l = none-lists [] s l

@@ -9,15 +9,16 @@ use lib.IntN.{ℤ}
 use Rattle.codes.specs.Number.{numberAt, signedOf}
 use Rattle.station.specs.declared.Cycled.{Cycled}
 use Rattle.station.specs.declared.Framed.{Framed}
+use Rattle.station.specs.declared.Returned.{Returned}
 use Rattle.station.specs.Calls.{Call, cycle, frameBy, toFrame, kinds}
 use Rattle.station.specs.Isolation.{answer, after}
 use Rattle.station.proofs.Past.{past-stays}
 use Rattle.journal.specs.Text.{decimal, signed, hexWord, hexBytes}
-use Rattle.journal.specs.Line.{frameLength, replyRoom, isMerged, space, stateName, cycleLine, replyText, frameLetter, frameLine, lineOf, cycleCall, frameCall}
+use Rattle.journal.specs.Line.{frameLength, replyRoom, isMerged, space, stateName, refusedLine, cycleLine, replyText, frameLetter, frameLine, returnLine, lineOf, cycleCall, frameCall}
 use Rattle.journal.specs.declared.Acted.the-variants.{Frame}
 use Rattle.journal.specs.History.{actedBy}
 
-pub cycle-refused : (axis : ℕ) (r : Cycled) → (r .number ≡ 0 → ⊥) → cycleLine axis r ≡ 0x78 ∷ space ∷ decimal (r .number)
+pub cycle-refused : (axis : ℕ) (r : Cycled) → (r .number ≡ 0 → ⊥) → cycleLine axis r ≡ refusedLine (r .number)
 cycle-refused axis r n = rw (ne-eqb (r .number) 0 n)
 
 pub cycle-worked : (axis : ℕ) (r : Cycled) → r .number ≡ 0
@@ -33,6 +34,13 @@ reply-hex bs n = rw (ne-eqb (length bs) 0 n)
 pub frame-pieces : (merged : Bool) (farm : ℕ) (r : Framed) (reply : List ℕ)
     → frameLine merged farm r reply ≡ ((frameLetter merged ∷ space ∷ decimal farm) ++ (space ∷ decimal (r .stored))) ++ (space ∷ replyText (take (r .length) reply))
 frame-pieces merged farm r reply = simp append-assoc
+
+pub return-refused : (farm : ℕ) (r : Returned) → (r .number ≡ 0 → ⊥) → returnLine farm r ≡ refusedLine (r .number)
+return-refused farm r n = rw (ne-eqb (r .number) 0 n)
+
+pub return-worked : (farm : ℕ) (r : Returned) → r .number ≡ 0
+    → returnLine farm r ≡ ((0x67 ∷ space ∷ decimal farm) ++ (space ∷ decimal (r .stored))) ++ (space ∷ decimal (r .version))
+return-worked farm r e = rw (eq-eqb (r .number) 0 e) (simp append-assoc)
 
 -- the call of a cycle's record, from the numbers that stand in it
 pub cycle-call : (r : List ℕ) (w f : ℕ) (n i : ℤ) → w ≡ numberAt 2 r 3 → n ≡ signedOf 2 (numberAt 2 r 5) → i ≡ signedOf 2 (numberAt 2 r 7) → f ≡ numberAt 2 r 9

@@ -12,6 +12,7 @@ use Rattle.codes.specs.Code.{AllOf}
 use Rattle.station.specs.Parts.{farms, freshParts}
 use Rattle.station.specs.Calls.{kinds}
 use Rattle.station.specs.Isolation.{answer, after}
+use Rattle.station.proofs.Tests.{one-of}
 use Rattle.journal.specs.Line.{holdsFrame, recordLength, longestRecord, nextRecord, pastRecord, isRecord, callOf, lineOf, recordLine, recordAfter}
 use Rattle.journal.specs.History.{partedIn, parted, history, calls, lines, endLine, replayFrom}
 use Rattle.journal.specs.Laws.{joined, PartedAsWritten, EveryJournal, EnoughBytes, piecesIn, pieces, played, PlaysWhole, ReplaysWhole}
@@ -20,8 +21,10 @@ use Rattle.journal.proofs.Records.{record-whole}
 -- a record has a byte at least, and no more than the longest
 pub record-sizes : (kind : ℕ) → (1 ≤ recordLength kind) × (recordLength kind ≤ longestRecord)
 record-sizes kind =
-    cases (eqb kind 1) (λ e. rw e (lit≤ tt, lit≤ tt))
-    (λ e. cases (holdsFrame kind) (λ f. rw (e, f) (lit≤ tt, lit≤ tt)) (λ f. rw (e, f) (lit≤ tt, lit≤ tt)))
+    let by = one-of (λ n. (1 ≤ n) × (n ≤ longestRecord)) in
+    by (eqb kind 1) _ _ (lit≤ tt, lit≤ tt)
+    (by (holdsFrame kind) _ _ (lit≤ tt, lit≤ tt)
+    (by (eqb kind 4) _ _ (lit≤ tt, lit≤ tt) (lit≤ tt, lit≤ tt)))
 
 record-some : (r : List ℕ) → isRecord r ≡ true → 1 ≤ length r
 record-some r is = omega (arith, record-whole r is, record-sizes (getD r 0 0) .0)

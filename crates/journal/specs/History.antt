@@ -6,10 +6,10 @@ use mathlib.Core.List.{List, [], _∷_, _++_, map}
 use Prim.Native.Nat.{ℕ, zero, suc}
 use lib.ListN.{length}
 use Rattle.station.specs.Parts.{farms, freshParts}
-use Rattle.station.specs.Calls.{Call, Answer, toCycle, toFrame, owner, kinds}
+use Rattle.station.specs.Calls.{Call, Answer, toCycle, toFrame, toList, toReturn, owner, kinds}
 use Rattle.station.specs.Isolation.{answer, after}
 use Rattle.journal.specs.declared.Acted.{Acted}
-use Rattle.journal.specs.declared.Acted.the-variants.{Cycle, Frame, Bad}
+use Rattle.journal.specs.declared.Acted.the-variants.{Cycle, Frame, Return, Bad}
 use Rattle.journal.specs.Line.{nextRecord, pastRecord, isRecord, callOf, lineOf, badLine}
 
 -- the records of a journal, and what is left from the first on that is bad: nothing, where the journal ends with a record
@@ -65,10 +65,12 @@ replayFrom bs s = lines (history (calls (parted bs)) s) ++ endLine (parted bs .l
 abbrev pub replayOf : List ℕ → List ℕ
 replayOf bs = replayFrom bs (freshParts farms)
 
--- whose call it was, and its answer but for the reply
+-- whose call it was, and its answer but for the reply; no record lists versions
 abbrev pub actedBy : Call → Answer → Acted
 actedBy c (toCycle d) = Cycle (owner c) d
 actedBy c (toFrame f reply) = Frame (owner c) f
+actedBy c (toList l) = Bad
+actedBy c (toReturn r) = Return (owner c) r
 
 -- what the bytes r do on the station s, told by `act`
 unfoldable pub actedOf : List ℕ → List ℕ → Acted

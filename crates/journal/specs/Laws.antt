@@ -1,15 +1,19 @@
--- What callers may cite of a journal in place of its text: from document 01, "Journal program", and document 02, R-3. Each is a statement
--- here and a proof in proofs/.
+-- What callers may cite of a journal in place of its text: from document 01, "Journal program", and document 02, R-3 and R-7. Each is a
+-- statement here and a proof in proofs/.
 use mathlib.Core.Path.{_≡_}
 use mathlib.Core.Bool.{true, false, cond}
 use mathlib.Core.List.{List, [], _∷_, _++_}
-use Prim.Native.Nat.{ℕ, zero, suc, _≤_}
+use Prim.Native.Nat.{ℕ, zero, suc, _+_, _*_, _≤_, _<_}
 use lib.ListN.{length, take, drop}
 use Rattle.codes.specs.Code.{AllOf}
 use Rattle.station.specs.declared.Framed.{Framed}
+use Rattle.station.specs.declared.Listed.{Listed}
+use Rattle.station.specs.declared.Returned.{Returned}
 use Rattle.station.specs.Parts.{farms, freshParts}
-use Rattle.station.specs.Calls.{frame, exchange, toFrame}
-use Rattle.journal.specs.Line.{longestRecord, nextRecord, pastRecord, replyRoom, frameLine, lineOf, isRecord, callOf, recordLine, recordAfter}
+use Rattle.station.specs.Calls.{frame, exchange, goBack, toFrame, toList, toReturn, kinds}
+use Rattle.station.specs.Isolation.{answer}
+use Rattle.journal.specs.Text.{decimal}
+use Rattle.journal.specs.Line.{longestRecord, nextRecord, pastRecord, replyRoom, space, frameLine, lineOf, isRecord, callOf, recordLine, recordAfter}
 use Rattle.journal.specs.History.{parted, replayFrom, replayOf}
 
 -- records one after the other
@@ -73,3 +77,27 @@ pub record MergedRecord (farm n : ℕ) (bytes : List ℕ) : Type 0 where
 
 abbrev pub MergedRecords : Type 0
 MergedRecords = (farm n : ℕ) (bytes : List ℕ) → MergedRecord farm n bytes
+
+-- R-7: "Journal kind 4, farm and number (2 bytes), goes back; its line is `g`, farm, elements stored, new number, or `x` and a refusal". The
+-- record of a farm and of the two bytes of a number, the high one first:
+pub record ReturnRecord (farm hi lo : ℕ) : Type 0 where
+  -- it is one, whatever they are,
+  pub whole : isRecord (4 ∷ farm ∷ hi ∷ lo ∷ []) ≡ true
+  -- its call is the going back to that number,
+  pub call : callOf (4 ∷ farm ∷ hi ∷ lo ∷ []) ≡ goBack farm (hi * 256 + lo)
+  -- its line is `g` and the three numbers,
+  pub done :
+      (a : Returned) → a .number ≡ 0
+      → lineOf (goBack farm (hi * 256 + lo)) (toReturn a)
+      ≡ 0x67 ∷ space ∷ decimal farm ++ (space ∷ decimal (a .stored) ++ (space ∷ decimal (a .version) ++ (0x0A ∷ [])))
+  -- or `x` and the number of the refusal
+  pub refused :
+      (a : Returned) → (a .number ≡ 0 → ⊥)
+      → lineOf (goBack farm (hi * 256 + lo)) (toReturn a) ≡ 0x78 ∷ space ∷ decimal (a .number) ++ (0x0A ∷ [])
+
+abbrev pub ReturnRecords : Type 0
+ReturnRecords = (farm hi lo : ℕ) → hi < 256 → lo < 256 → ReturnRecord farm hi lo
+
+-- No record lists versions: what is said of a list where lines and acts are said holds of no journal.
+abbrev pub NoneLists : Type 0
+NoneLists = (r s : List ℕ) (l : Listed) → answer kinds (callOf r) s ≡ toList l → ⊥

@@ -3,11 +3,12 @@ ghost use mathlib.Core.Path.{_≡_};
 ghost use Prim.Native.Nat.{_≤_};
 ghost use lib.ListN.{length};
 ghost use Rattle.station.specs.Isolation.{answer, after};
-ghost use Rattle.station.specs.Calls.{kinds, toCycle, toFrame};
-ghost use Rattle.journal.specs.Line.{cycleRecord, frameRecord, frameLength, cycleCall, frameCall, replyRoom};
+ghost use Rattle.station.specs.Calls.{kinds, toCycle, toFrame, toReturn};
+ghost use Rattle.journal.specs.Line.{cycleRecord, frameRecord, returnRecord, frameLength, cycleCall, frameCall, returnCall, replyRoom};
 use super::record;
 use station::CycleDone;
 use station::Framed;
+use station::Returned;
 
 // The cycle of a record.
 pub(crate) fn cycle(station: &mut [u8], bytes: &[u8]) -> CycleDone
@@ -44,4 +45,14 @@ pub(crate) fn frame(station: &mut [u8], bytes: &[u8], reply: &mut [u8]) -> Frame
         return station::exchange(station, farm, f, reply);
     }
     station::frame(station, farm, f, reply)
+}
+
+// The going back of a record.
+pub(crate) fn go_back(station: &mut [u8], bytes: &[u8]) -> Returned
+    requires { ⌜ length (now bytes) ≡ returnRecord ⌝ }
+    ensures { λ r. ⌜ toReturn r ≡ answer kinds (returnCall (now (bytes .entry))) (now (station .entry)) ⌝ }
+    ensures { λ r. ⌜ now (station .exit) ≡ after kinds (returnCall (now (bytes .entry))) (now (station .entry)) ⌝ }
+{
+    let version = codes::word_at(bytes, 2);
+    station::go_back(station, bytes[1] as u32, version as u32)
 }

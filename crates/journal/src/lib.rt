@@ -6,10 +6,11 @@ ghost use lib.ListN.{length, drop};
 ghost use Rattle.codes.specs.Number.{put};
 ghost use Rattle.station.specs.Calls.{kinds};
 ghost use Rattle.station.specs.Isolation.{answer, after};
-ghost use Rattle.journal.specs.Line.{cycleRecord, frameRecord, frameLength, isRecord, cycleCall, frameCall, lineOf, recordLine, recordAfter};
+ghost use Rattle.journal.specs.Line.{cycleRecord, frameRecord, returnRecord, frameLength, isRecord, cycleCall, frameCall, returnCall, lineOf, recordLine, recordAfter};
 ghost use Rattle.journal.specs.History.{actedOf};
 use station::CycleDone;
 use station::Framed;
+use station::Returned;
 
 mod call; // call.rt: the call of a record
 mod line; // line.rt: the lines
@@ -29,10 +30,11 @@ pub struct Played {
     pub good: bool,
 }
 
-// What a record did: a cycle of an axis, or a frame of a farm, by itself or merged; nothing, where it is bad.
+// What a record did: a cycle of an axis, a frame of a farm, by itself or merged, or its going back; nothing, where it is bad.
 pub enum Acted {
     Cycle(u8, CycleDone),
     Frame(u8, Framed),
+    Return(u8, Returned),
     Bad,
 }
 
@@ -62,6 +64,18 @@ fn play_frame(station: &mut [u8], bytes: &[u8], line: &mut [u8]) -> usize
     text::put_byte(line, next, b'\n')
 }
 
+// Plays a record of a going back.
+fn play_return(station: &mut [u8], bytes: &[u8], line: &mut [u8]) -> usize
+    requires { ⌜ (length (now bytes) ≡ returnRecord) × (length (now line) ≡ 513) ⌝ }
+    ensures { λ r. ⌜ now (line .exit) ≡ put (now (line .entry)) 0 (lineOf (returnCall (now (bytes .entry))) (answer kinds (returnCall (now (bytes .entry))) (now (station .entry)))) ⌝ }
+    ensures { λ r. ⌜ (r ≡ length (lineOf (returnCall (now (bytes .entry))) (answer kinds (returnCall (now (bytes .entry))) (now (station .entry))))) × (r ≤ 513) ⌝ }
+    ensures { λ r. ⌜ now (station .exit) ≡ after kinds (returnCall (now (bytes .entry))) (now (station .entry)) ⌝ }
+{
+    let r = call::go_back(station, bytes);
+    let next = line::put_return(line, bytes[1], r);
+    text::put_byte(line, next, b'\n')
+}
+
 // Plays a record on the station, and writes its line; anything else is bad.
 pub fn play(station: &mut [u8], bytes: &[u8], line: &mut [u8; LINE]) -> Played
     ensures { λ r. ⌜ now (line .exit) ≡ recordLine (now (bytes .entry)) (now (station .entry)) ++ drop (r .length) (now (line .entry)) ⌝ }
@@ -72,6 +86,12 @@ pub fn play(station: &mut [u8], bytes: &[u8], line: &mut [u8; LINE]) -> Played
     if record::is_cycle(bytes) {
         return Played {
             length: play_cycle(station, bytes, line),
+            good: true,
+        };
+    }
+    if record::is_return(bytes) {
+        return Played {
+            length: play_return(station, bytes, line),
             good: true,
         };
     }
@@ -95,6 +115,10 @@ pub fn act(station: &mut [u8], bytes: &[u8]) -> Acted
     if record::is_cycle(bytes) {
         let axis = bytes[1];
         return Acted::Cycle(axis, call::cycle(station, bytes));
+    }
+    if record::is_return(bytes) {
+        let farm = bytes[1];
+        return Acted::Return(farm, call::go_back(station, bytes));
     }
     if record::is_frame(bytes) {
         let farm = bytes[1];

@@ -5,7 +5,7 @@ ghost use Prim.Native.Nat.{_+_, _≤_};
 ghost use lib.ListN.{length};
 ghost use Rattle.codes.specs.Number.{put};
 ghost use Rattle.journal.specs.Text.{decimal, signed, hexWord};
-ghost use Rattle.journal.specs.Line.{space, stateName, cycleLine, replyText, frameLetter, frameLine, badLine};
+ghost use Rattle.journal.specs.Line.{space, stateName, cycleLine, replyText, frameLetter, frameLine, returnLine, badLine};
 use super::text::DIGITS_64;
 use super::text::put_byte;
 use super::text::put_decimal;
@@ -15,6 +15,7 @@ use super::text::put_hex_word;
 use super::text::put_signed;
 use station::Cycled;
 use station::Framed;
+use station::Returned;
 
 const SPACE: u8 = b' ';
 
@@ -78,7 +79,7 @@ pub(crate) fn put_cycle(line: &mut [u8], axis: u8, c: Cycled) -> usize
     put_speed(line, next, c.rpm)
 }
 
-// How many elements were stored, after a space.
+// A number of 16 bits, after a space: how many elements were stored, or that of a version.
 fn put_count(line: &mut [u8], at: usize, stored: u16) -> usize
     requires { ⌜ at + 11 ≤ length (now line) ⌝ }
     ensures { λ r. ⌜ now (line .exit) ≡ put (now (line .entry)) at (space ∷ decimal stored) ⌝ }
@@ -118,6 +119,20 @@ pub(crate) fn put_frame(line: &mut [u8], merged: bool, farm: u8, f: Framed, repl
     let next = put_head(line, frame_letter(merged), farm as u32);
     let next = put_count(line, next, f.stored);
     put_reply(line, next, &reply[..n])
+}
+
+// What a going back answered, by `g`, or by `x` where it was refused.
+pub(crate) fn put_return(line: &mut [u8], farm: u8, r: Returned) -> usize
+    requires { ⌜ 34 ≤ length (now line) ⌝ }
+    ensures { λ n. ⌜ now (line .exit) ≡ put (now (line .entry)) 0 (returnLine farm r) ⌝ }
+    ensures { λ n. ⌜ (n ≡ length (returnLine farm r)) × (n ≤ 34) ⌝ }
+{
+    if r.number != 0 {
+        return put_head(line, b'x', r.number as u32);
+    }
+    let next = put_head(line, b'g', farm as u32);
+    let next = put_count(line, next, r.stored);
+    put_count(line, next, r.version)
 }
 
 pub(crate) fn put_bad(line: &mut [u8]) -> usize

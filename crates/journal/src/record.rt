@@ -3,12 +3,14 @@ ghost use mathlib.Core.Path.{_≡_};
 ghost use Prim.Native.Nat.{_≤_};
 ghost use lib.ListN.{length, drop};
 ghost use Rattle.drive.specs.Faults.{zeros};
-ghost use Rattle.journal.specs.Line.{recordLength, longestRecord, nextRecord, isCycle, isMerged, isFrame};
+ghost use Rattle.journal.specs.Line.{recordLength, longestRecord, nextRecord, isCycle, isReturn, isMerged, isFrame};
 
 // Records, with their kind byte, and what of a frame's stands before the frame.
 const CYCLE: usize = 11;
 
 const FRAME: usize = 247;
+
+const RETURN: usize = 4;
 
 pub(crate) const FRAME_HEAD: usize = 3;
 
@@ -23,6 +25,7 @@ fn record_length(kind: u8) -> usize
         1 => CYCLE,
         2 => FRAME,
         3 => FRAME,
+        4 => RETURN,
         _ => 1,
     }
 }
@@ -53,6 +56,16 @@ pub(crate) fn is_cycle(bytes: &[u8]) -> bool
         return false;
     }
     bytes[0] == 1
+}
+
+// Whether it is a going back.
+pub(crate) fn is_return(bytes: &[u8]) -> bool
+    ensures { λ r. ⌜ r ≡ isReturn (now (bytes .entry)) ⌝ }
+{
+    if bytes.len() != RETURN {
+        return false;
+    }
+    bytes[0] == 4
 }
 
 // Whether every byte from `from` on is 0.

@@ -4,10 +4,12 @@ ghost use mathlib.Core.Path.{_≡_};
 ghost use Rattle.checker.specs.Check.{checkOf};
 ghost use Rattle.station.specs.Parts.{stationSize, freshNumber, freshStation};
 ghost use Rattle.station.specs.Isolation.{answer, after};
-ghost use Rattle.station.specs.Calls.{kinds, cycle, frame, exchange};
-ghost use Rattle.llinkhiro.specs.Host.{ofCycle, ofFrame, handed};
+ghost use Rattle.station.specs.Calls.{kinds, cycle, frame, exchange, list, goBack};
+ghost use Rattle.llinkhiro.specs.Host.{ofCycle, ofFrame, ofList, ofReturn, handed};
 use station::Cycled;
 use station::Framed;
+use station::Listed;
+use station::Returned;
 
 // Bytes of a station's memory.
 #[no_mangle]
@@ -70,6 +72,23 @@ pub extern "C" fn llinkhiro_exchange(
     ensures { λ r. ⌜ now (station .exit) ≡ after kinds (exchange farm (now (f .entry)) (now (reply .entry))) (now (station .entry)) ⌝ }
 {
     station::exchange(station, farm, f, reply)
+}
+
+// The versions of a farm that are kept.
+#[no_mangle]
+pub extern "C" fn llinkhiro_versions(station: &[u8], farm: u32) -> Listed
+    ensures { λ r. ⌜ ofList r ≡ handed (answer kinds (list farm) (now (station .entry))) ⌝ }
+{
+    station::list(station, farm)
+}
+
+// Goes back to a version of a farm.
+#[no_mangle]
+pub extern "C" fn llinkhiro_go_back(station: &mut [u8], farm: u32, version: u32) -> Returned
+    ensures { λ r. ⌜ ofReturn r ≡ handed (answer kinds (goBack farm version) (now (station .entry))) ⌝ }
+    ensures { λ r. ⌜ now (station .exit) ≡ after kinds (goBack farm version) (now (station .entry)) ⌝ }
+{
+    station::go_back(station, farm, version)
 }
 
 // A response block held against the request block that it answers, apart from all stations.

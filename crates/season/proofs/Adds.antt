@@ -11,14 +11,15 @@ use borrow.Rule.Slice.PartMut.{putMid}
 use borrow.Table.Steps.{cases}
 use Rattle.codes.proofs.Demand.{both}
 use Rattle.station.specs.Parts.{farms, window, withWindow}
-use Rattle.station.specs.Calls.{Call, Answer, toCycle, toFrame, owner, kinds}
+use Rattle.station.specs.Calls.{Answer, toCycle, toFrame, toList, toReturn, owner, kinds}
 use Rattle.station.specs.Isolation.{answer}
 use Rattle.station.proofs.Windows.{length-window}
 use Rattle.station.proofs.Isolation.{ends}
 use Rattle.journal.specs.declared.Acted.{Acted}
-use Rattle.journal.specs.declared.Acted.the-variants.{Cycle, Frame, Bad}
+use Rattle.journal.specs.declared.Acted.the-variants.{Cycle, Frame, Return, Bad}
 use Rattle.journal.specs.Line.{isRecord, callOf}
 use Rattle.journal.specs.History.{actedBy, actedOf}
+use Rattle.journal.proofs.Records.{none-lists}
 use Rattle.season.specs.declared.Turn.{Turn}
 use Rattle.season.specs.declared.Turn.the-variants.{Counted, Bad as NoRecord, Over}
 use Rattle.season.specs.Season.{answerCounts, farmCounts, withCounts, plus, reaches, Season, added, tally, next, andThen, count, stepOf}
@@ -58,16 +59,19 @@ module _ (k : ℕ) (counts totals : List ℕ) where
 abbrev pub ofActed : Acted → List ℕ → Season
 ofActed (Cycle k c) totals = added k (answerCounts (toCycle c)) totals
 ofActed (Frame k f) totals = added k (answerCounts (toFrame f [])) totals
+ofActed (Return k r) totals = added k (answerCounts (toReturn r)) totals
 ofActed Bad totals = record { totals = totals; last = NoRecord }
 
-of-acted : (c : Call) (a : Answer) (totals : List ℕ) → added (owner c) (answerCounts a) totals ≡ ofActed (actedBy c a) totals
-of-acted c (toCycle d) totals = refl
-of-acted c (toFrame f reply) totals = refl
+of-acted : (r s totals : List ℕ) (a : Answer) → answer kinds (callOf r) s ≡ a → added (owner (callOf r)) (answerCounts a) totals ≡ ofActed (actedBy (callOf r) a) totals
+of-acted r s totals (toCycle d) e = refl
+of-acted r s totals (toFrame f reply) e = refl
+of-acted r s totals (toList l) e = absurd (none-lists r s l e)
+of-acted r s totals (toReturn d) e = refl
 
 pub step-of : (r s totals : List ℕ) → stepOf r s totals ≡ ofActed (actedOf r s) totals
 unfolding stepOf actedOf tally
 step-of r s totals =
-    cases (isRecord r) (λ is. rw is (of-acted (callOf r) (answer kinds (callOf r) s) totals)) (λ isnt. rw isnt)
+    cases (isRecord r) (λ is. rw is (of-acted r s totals (answer kinds (callOf r) s) refl)) (λ isnt. rw isnt)
 
 -- a farm's counts begin and end within the totals
 pub inside : (k : ℕ) (totals : List ℕ) → 1 ≤ k → k ≤ farms → length totals ≡ farms * 10 → (k - 1) * 10 + 10 ≤ length totals

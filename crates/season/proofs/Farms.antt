@@ -12,7 +12,7 @@ use borrow.Table.Steps.{cases}
 use Rattle.station.specs.Parts.{farms}
 use Rattle.station.specs.Runs.{runAnswers, answersTo, SameSeen}
 use Rattle.station.specs.Isolation.{answer, after, machine, Isolated}
-use Rattle.station.specs.Calls.{Call, Answer, toCycle, toFrame, owner, kinds}
+use Rattle.station.specs.Calls.{Call, Answer, toCycle, toFrame, toList, toReturn, owner, kinds}
 use Rattle.station.proofs.Windows.{length-with, window-same, window-before, window-after}
 use Rattle.station.proofs.Isolation.{ends}
 use Rattle.station.proofs.Owes.{isolated-station}
@@ -26,6 +26,8 @@ use Rattle.season.proofs.Adds.{inside, sums-ten, isCounted, ways}
 ten-counts : (a : Answer) → length (answerCounts a) ≡ 10
 ten-counts (toCycle c) = refl
 ten-counts (toFrame f reply) = refl
+ten-counts (toList l) = refl
+ten-counts (toReturn r) = refl
 
 -- what adding the ten counts of an answer for farm j does to those of farm k
 module _ (j : ℕ) (counts totals : List ℕ) (ten : length counts ≡ 10) (size : length totals ≡ farms * 10) where

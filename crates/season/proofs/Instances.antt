@@ -17,7 +17,7 @@ use Rattle.journal.specs.Laws.{pieces}
 use Rattle.season.specs.declared.Turn.the-variants.{Counted, Bad, Over}
 use Rattle.season.specs.Season.{one, answerCounts, farmCounts, Season, added, tally, count, seasonFrom, stepOf}
 use Rattle.season.specs.Report.{farmLine, lastLine, reportText, reportOf}
-use Rattle.season.specs.Laws.{stepped, sum, Tallied, frameWith}
+use Rattle.season.specs.Laws.{stepped, sum, Tallied, frameWith, returnWith}
 use Rattle.season.proofs.Adds.{limits, ends-at-over}
 use Rattle.season.proofs.Whole.{counts-whole, reports-whole}
 use Rattle.season.proofs.Farms.{farms-apart}
@@ -105,9 +105,10 @@ module _ (s : List ℕ) (size : length s ≡ stationSize) where
   unfolding window
   counts-16 = ap (λ (c : Season). farmCounts 16 (c .totals)) (worked-season s size)
 
--- WorkedCounts: the ninth kind of answer is a denied frame
-ninth : Path (List (List ℕ)) (answerCounts (frameWith 0 11) ∷ []) ((0 ∷ 0 ∷ 0 ∷ 0 ∷ 0 ∷ 0 ∷ 0 ∷ 0 ∷ 1 ∷ 0 ∷ []) ∷ [])
-ninth = ap (drop 8) worked-counts
+-- WorkedCounts: the last kinds of answer are a denied frame, a going back, and a refused one
+last-three : Path (List (List ℕ)) (answerCounts (frameWith 0 11) ∷ answerCounts (returnWith 18 0) ∷ answerCounts (returnWith 0 14) ∷ [])
+    ((0 ∷ 0 ∷ 0 ∷ 0 ∷ 0 ∷ 0 ∷ 0 ∷ 0 ∷ 1 ∷ 0 ∷ []) ∷ (replicate 9 0 ++ (18 ∷ [])) ∷ replicate 10 0 ∷ [])
+last-three = ap (drop 8) worked-counts
 
 -- WorkedLines: the one ends in 21, the other is all of it
 two-lines :

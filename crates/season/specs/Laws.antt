@@ -11,7 +11,7 @@ use Rattle.station.specs.Cycle.{Sent}
 use Rattle.station.specs.Runs.{callsBy, runAnswers, answersTo}
 use Rattle.station.specs.Isolation.{answer, machine}
 use Rattle.station.specs.Frame.{isRead}
-use Rattle.station.specs.Calls.{Call, cycle, frame, exchange, Answer, toCycle, toFrame, numberIn, owner, kinds}
+use Rattle.station.specs.Calls.{Call, cycle, frame, exchange, Answer, toCycle, toFrame, toReturn, numberIn, owner, kinds}
 use Rattle.station.specs.Worked.{workedCalls}
 use Rattle.journal.specs.Line.{recordAfter}
 use Rattle.journal.specs.History.{Event, history}
@@ -103,13 +103,17 @@ WorkedSeason =
       last = Counted;
     }
 
--- each kind of answer in its place: a cycle that ended in a state, acknowledged or entered; a frame with its elements stored and number
+-- each kind of answer in its place: a cycle that ended in a state, acknowledged or entered; a frame, and a going back (R-7), with its
+-- elements stored and number
 abbrev pub cycleTo : ℕ → Bool → Bool → Answer
 cycleTo state acknowledged entered =
     toCycle (record { told = record { rpm = pos 0; status = 0; state = state; number = 0 }; acknowledged = acknowledged; entered = entered })
 
 abbrev pub frameWith : ℕ → ℕ → Answer
 frameWith stored number = toFrame (record { length = 4; stored = stored; number = number }) []
+
+abbrev pub returnWith : ℕ → ℕ → Answer
+returnWith stored number = toReturn (record { stored = stored; version = 3; number = number })
 
 abbrev pub WorkedCounts : Type 0
 WorkedCounts =
@@ -123,6 +127,8 @@ WorkedCounts =
     ∷ frameWith 7 0
     ∷ frameWith 0 10
     ∷ frameWith 0 11
+    ∷ returnWith 18 0
+    ∷ returnWith 0 14
     ∷ [])
     ≡ (1 ∷ 0 ∷ 0 ∷ 0 ∷ 0 ∷ 0 ∷ 0 ∷ 0 ∷ 0 ∷ 0 ∷ [])
     ∷ (0 ∷ 1 ∷ 0 ∷ 0 ∷ 0 ∷ 0 ∷ 0 ∷ 1 ∷ 0 ∷ 0 ∷ [])
@@ -133,6 +139,8 @@ WorkedCounts =
     ∷ (0 ∷ 0 ∷ 0 ∷ 0 ∷ 0 ∷ 0 ∷ 0 ∷ 0 ∷ 0 ∷ 7 ∷ [])
     ∷ (0 ∷ 0 ∷ 0 ∷ 0 ∷ 0 ∷ 0 ∷ 0 ∷ 0 ∷ 0 ∷ 0 ∷ [])
     ∷ (0 ∷ 0 ∷ 0 ∷ 0 ∷ 0 ∷ 0 ∷ 0 ∷ 0 ∷ 1 ∷ 0 ∷ [])
+    ∷ (0 ∷ 0 ∷ 0 ∷ 0 ∷ 0 ∷ 0 ∷ 0 ∷ 0 ∷ 0 ∷ 18 ∷ [])
+    ∷ (0 ∷ 0 ∷ 0 ∷ 0 ∷ 0 ∷ 0 ∷ 0 ∷ 0 ∷ 0 ∷ 0 ∷ [])
     ∷ []
 
 -- the lines `r 2 1 1 1 1 0 0 1 0 0 21` and `x 13`, byte by byte

@@ -6,7 +6,7 @@ use Prim.Native.Nat.{ℕ, _+_, _-_, _*_, _^_}
 use lib.Dec.{eqb, leb}
 use lib.ListN.{replicate}
 use Rattle.station.specs.Parts.{farms, window, withWindow, freshParts}
-use Rattle.station.specs.Calls.{Answer, toCycle, toFrame, owner}
+use Rattle.station.specs.Calls.{Answer, toCycle, toFrame, toList, toReturn, owner}
 use Rattle.journal.specs.Line.{isRecord, callOf}
 use Rattle.journal.specs.History.{parted, Event, eventOf, history, calls}
 use Rattle.season.specs.declared.Turn.{Turn}
@@ -16,7 +16,8 @@ use Rattle.season.specs.declared.Turn.the-variants.{Counted, Bad, Over}
 abbrev pub one : Bool → ℕ
 one b = cond b 1 0
 
--- What an answer counts. "A cycle counts for its axis's farm in the state it ends in": a refused one ends in none, and did nothing.
+-- What an answer counts. "A cycle counts for its axis's farm in the state it ends in": a refused one ends in none, and did nothing. R-7:
+-- "R-1 counts kinds 3 and 4."; no record lists versions, and a list stores nothing.
 abbrev pub answerCounts : Answer → List ℕ
 answerCounts (toCycle c) =
     one (eqb (c .told .state) 1)
@@ -31,6 +32,8 @@ answerCounts (toCycle c) =
     ∷ 0
     ∷ []
 answerCounts (toFrame f reply) = 0 ∷ 0 ∷ 0 ∷ 0 ∷ 0 ∷ 0 ∷ 0 ∷ 0 ∷ one (eqb (f .number) 11) ∷ f .stored ∷ []
+answerCounts (toList l) = replicate 10 0
+answerCounts (toReturn r) = 0 ∷ 0 ∷ 0 ∷ 0 ∷ 0 ∷ 0 ∷ 0 ∷ 0 ∷ 0 ∷ r .stored ∷ []
 
 -- the ten counts of farm k among the totals of all farms, and the totals with others for them
 abbrev pub farmCounts : ℕ → List ℕ → List ℕ

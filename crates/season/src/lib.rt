@@ -37,6 +37,7 @@ pub fn step(station: &mut [u8], bytes: &[u8], totals: &mut [u64; COUNTS]) -> Tur
     match acted {
         Acted::Cycle(axis, c) => totals::add(totals, axis, &totals::of_cycle(c)),
         Acted::Frame(farm, f) => totals::add(totals, farm, &totals::of_frame(f)),
+        Acted::Return(farm, r) => totals::add(totals, farm, &totals::of_return(r)),
         Acted::Bad => Turn::Bad,
     }
 }

@@ -3,13 +3,14 @@ ghost use mathlib.Core.Path.{_≡_};
 ghost use mathlib.Core.Bool.{false, not};
 ghost use mathlib.Core.List.{[]};
 ghost use lib.ListN.{length};
-ghost use Rattle.station.specs.Calls.{toCycle, toFrame};
+ghost use Rattle.station.specs.Calls.{toCycle, toFrame, toReturn};
 ghost use Rattle.season.specs.Season.{one, answerCounts, plus, reaches, added};
 use super::EACH;
 use super::Turn;
 use station::CycleDone;
 use station::FARMS;
 use station::Framed;
+use station::Returned;
 
 fn one(b: bool) -> u64
     ensures { λ r. ⌜ r ≡ one b ⌝ }
@@ -42,6 +43,15 @@ pub(crate) fn of_frame(f: Framed) -> [u64; EACH]
     let mut counts = [0u64; EACH];
     counts[8] = one(f.number == 11);
     counts[9] = f.stored as u64;
+    counts
+}
+
+// What a going back counts.
+pub(crate) fn of_return(r: Returned) -> [u64; EACH]
+    ensures { λ q. ⌜ q ≡ answerCounts (toReturn r) ⌝ }
+{
+    let mut counts = [0u64; EACH];
+    counts[9] = r.stored as u64;
     counts
 }
 

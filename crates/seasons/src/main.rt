@@ -41,10 +41,20 @@ fn fresh() -> Station {
     memory
 }
 
-// A station after a cycle of axis 1.
-fn after(mut memory: Station, stw1: u16, fault: u8) -> Station {
-    journal::act(&mut memory, &cycle(1, stw1, fault));
+// Farm 1's record of a going back to version 1.
+fn back() -> [u8; 4] {
+    [4, 1, 0, 1]
+}
+
+// A station after a record.
+fn played(mut memory: Station, record: &[u8]) -> Station {
+    journal::act(&mut memory, record);
     memory
+}
+
+// A station after a cycle of axis 1.
+fn after(memory: Station, stw1: u16, fault: u8) -> Station {
+    played(memory, &cycle(1, stw1, fault))
 }
 
 // All counts 0 but farm 1's in one place, which is so many below 2^64.
@@ -110,13 +120,15 @@ fn states(memory: Station, ready: Station, running: Station) {
     both(b"S52", running, &cycle(1, 0x047B, 0), 5, 1);
 }
 
-// An entry into S4; an acknowledge, which ends in S2; and frames.
+// An entry into S4; an acknowledge, which ends in S2; frames; and a going back.
 fn others(memory: Station, ready: Station) {
     both(b"entries", ready, &cycle(1, 0x047F, 0), 6, 1);
     let faulted = after(memory, 0x047E, 5);
     both(b"acknowledged", faulted, &cycle(1, 0x04FE, 0), 7, 1);
     both(b"denied", memory, &marks(2), 8, 1);
     both(b"stored", memory, &marks(1), 9, 2);
+    let changed = played(memory, &marks(1));
+    both(b"stored by going back", changed, &back(), 9, 18);
 }
 
 // Counts that a record does not add to stand in no one's way.
@@ -126,6 +138,7 @@ fn unmoved(memory: Station, ready: Station) {
     count(b"S4, other farms full", ready, &enters, others_full());
     let full = [u64::MAX; COUNTS];
     count(b"axis 17, all full", memory, &cycle(17, 0x047E, 0), full);
+    count(b"version 1 not kept, all full", memory, &back(), full);
     count(b"no record, all full", memory, b"\x03", full);
 }
 

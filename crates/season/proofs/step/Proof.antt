@@ -37,6 +37,18 @@ slice-aggregate-add-2 c = search needs
 add-requires-2 : tie.Need-add-requires-2
 add-requires-2 c κs = search needs
 
+enum-known-acted-3 : tie.Need-enum-known-acted-3
+enum-known-acted-3 c = search needs
+
+of-return-requires : tie.Need-of-return-requires
+of-return-requires c κs = search needs
+
+slice-aggregate-add-3 : tie.Need-slice-aggregate-add-3
+slice-aggregate-add-3 c = search needs
+
+add-requires-3 : tie.Need-add-requires-3
+add-requires-3 c κs = search needs
+
 enum-told : tie.Need-enum-told
 enum-told c = search needs
 
@@ -71,6 +83,19 @@ same-length-3 c = search needs
 
 returns-3 : tie.Need-returns-3
 returns-3 c =
+    let a = c .before .before .before .before .before .before .before .before .before .before .before .before .before .args in
+    let act = c .before .before .before .before .before .before .before .before .before .act in
+    let v = c .before .before .before .before .before .acted3 .given in
+    let counts = c .before .before .of-return .ensures in
+    let e = step-of (now (a .bytes)) (now (a .station)) (now (a .totals)) ∙ ap (λ (d : Acted). ofActed d (now (a .totals))) (sym (act .ensures .0) ∙ v .1) in
+    let same = ap (λ (l : List ℕ). added (v .0 .0) l (now (a .totals))) counts ∙ sym e in
+    (c .add3 .ensures .0 ∙ ap (λ (t : Season). t .last) same, (c .add3 .ensures .1 ∙ ap (λ (t : Season). t .totals) same, act .ensures .1))
+
+same-length-4 : tie.Need-same-length-4
+same-length-4 c = search needs
+
+returns-4 : tie.Need-returns-4
+returns-4 c =
     let a = c .before .before .before .before .before .before .before .before .args in
     let act = c .before .before .before .before .act in
     let e = step-of (now (a .bytes)) (now (a .station)) (now (a .totals)) ∙ ap (λ (d : Acted). ofActed d (now (a .totals))) (sym (act .ensures .0) ∙ c .enum-told .given .1) in
@@ -89,10 +114,16 @@ step-spec =
     of-frame-requires
     slice-aggregate-add-2
     add-requires-2
+    enum-known-acted-3
+    of-return-requires
+    slice-aggregate-add-3
+    add-requires-3
     enum-told
     same-length
     returns
     same-length-2
     returns-2
     same-length-3
-    returns-3)
+    returns-3
+    same-length-4
+    returns-4)

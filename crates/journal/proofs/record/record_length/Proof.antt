@@ -13,9 +13,12 @@ returns-3 : tie.Need-returns-3
 returns-3 c = rw (c .match .keys3)
 
 returns-4 : tie.Need-returns-4
-returns-4 c =
+returns-4 c = rw (c .match .keys4)
+
+returns-5 : tie.Need-returns-5
+returns-5 c =
     let rest = c .match .rest in
-    rw (ne-eqb _ _ (rest .0 .0 .1), ne-eqb _ _ (rest .0 .1), ne-eqb _ _ (rest .1))
+    rw (ne-eqb _ _ (rest .0 .0 .0 .1), ne-eqb _ _ (rest .0 .0 .1), ne-eqb _ _ (rest .0 .1), ne-eqb _ _ (rest .1))
 
 pub record-length-spec : {M : Type 1} → statement M
-record-length-spec = tie.close (tie.spec returns returns-2 returns-3 returns-4)
+record-length-spec = tie.close (tie.spec returns returns-2 returns-3 returns-4 returns-5)
