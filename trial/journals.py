@@ -45,6 +45,9 @@ def cases(text):
             case['journal'] += bytes_of(rest.split())
         elif key == 'out':
             case['out'].append(expand(rest))
+        elif key == 'again':
+            case['journal'] *= int(rest)
+            case['out'] *= int(rest)
         elif key not in ('', 'source', 'note'):
             sys.exit(f'unknown key: {line}')
 

@@ -7,6 +7,8 @@
 //! - `cycle AXIS FLAGS STW1 NSOLL NIST FAULT -> STATE ZSW1 RPM`, or `-> x NUMBER` for a refused one;
 //! - `frame FARM BYTES -> NUMBER STORED REPLY`; bytes in hex, `N*BYTES` repeats, `-` is none;
 //! - `exchange FARM BYTES -> NUMBER STORED REPLY`, the merged call, in the same way;
+//! - `versions FARM -> NUMBER OLDEST KEPT`, the list of the versions that are kept;
+//! - `go_back FARM VERSION -> NUMBER STORED VERSION`, a going back, which answers the new version;
 //! - `check BYTES : BYTES -> NUMBER`, a request block and a response block: 0 for yes, or the first check that failed;
 //! - `reply N`: the reply memory of the frames and merged calls that follow has N bytes (244 at first);
 //! - `memory N`: the memory lent from here on is N bytes longer than a station's (-1: one shorter);
@@ -14,6 +16,7 @@
 //! - `fresh -> NUMBER`: the station is made fresh again;
 //! - `loop N` .. `end`: the steps between are played N times.
 
+use crate::face::{Listed, Returned};
 use crate::pair::hex;
 use crate::sending::Sending;
 use std::fmt;
@@ -43,6 +46,8 @@ pub struct Line {
 pub enum Step {
     Cycle { input: Cycle, wanted: CycleAnswer },
     Frame { farm: u32, sending: Sending, frame: Vec<u8>, wanted: FrameAnswer },
+    Versions { farm: u32, wanted: Listed },
+    GoBack { farm: u32, version: u32, wanted: Returned },
     Check { request: Vec<u8>, response: Vec<u8>, number: u8 },
     Fresh { number: u8 },
     Reply { size: usize },
@@ -95,6 +100,18 @@ impl fmt::Display for CycleAnswer {
 impl fmt::Display for FrameAnswer {
     fn fmt(&self, f: &mut fmt::Formatter) -> fmt::Result {
         write!(f, "{} {} {}", self.number, self.stored, hex_or_dash(&self.reply))
+    }
+}
+
+impl fmt::Display for Listed {
+    fn fmt(&self, f: &mut fmt::Formatter) -> fmt::Result {
+        write!(f, "{} {} {}", self.number, self.oldest, self.kept)
+    }
+}
+
+impl fmt::Display for Returned {
+    fn fmt(&self, f: &mut fmt::Formatter) -> fmt::Result {
+        write!(f, "{} {} {}", self.number, self.stored, self.version)
     }
 }
 
@@ -177,13 +194,18 @@ fn read_step(key: &str, rest: &str) -> Result<Step, String> {
         Some(at) => (&words[..at], &words[at + 1..]),
         None => (&words[..], &[][..]),
     };
-    if arrow.is_some() != matches!(key, "cycle" | "frame" | "exchange" | "check" | "fresh") {
+    if arrow.is_some() != matches!(key, "cycle" | "frame" | "exchange" | "versions" | "go_back" | "check" | "fresh") {
         return Err("\"->\" is missing or out of place".to_string());
     }
     match (key, asked) {
         ("cycle", asked) => Ok(Step::Cycle { input: read_cycle(asked)?, wanted: read_cycle_answer(wanted)? }),
         ("frame", asked) => read_frame(Sending::Alone, asked, wanted),
         ("exchange", asked) => read_frame(Sending::Merged, asked, wanted),
+        ("versions", [farm]) => Ok(Step::Versions { farm: read_number(farm)?, wanted: read_listed(wanted)? }),
+        ("go_back", [farm, version]) => {
+            let (farm, version) = (read_number(farm)?, read_number(version)?);
+            Ok(Step::GoBack { farm, version, wanted: read_returned(wanted)? })
+        }
         ("check", asked) => read_check(asked, wanted),
         ("fresh", []) => Ok(Step::Fresh { number: read_only_number(wanted)? }),
         ("reply", [size]) => Ok(Step::Reply { size: read_number(size)? }),
@@ -259,6 +281,16 @@ fn read_frame_answer(words: &[&str]) -> Result<FrameAnswer, String> {
     }
 }
 
+fn read_listed(words: &[&str]) -> Result<Listed, String> {
+    let [number, oldest, kept] = words else { return Err("expected NUMBER OLDEST KEPT".to_string()) };
+    Ok(Listed { number: read_number(number)?, oldest: read_number(oldest)?, kept: read_number(kept)? })
+}
+
+fn read_returned(words: &[&str]) -> Result<Returned, String> {
+    let [number, stored, version] = words else { return Err("expected NUMBER STORED VERSION".to_string()) };
+    Ok(Returned { number: read_number(number)?, stored: read_number(stored)?, version: read_number(version)? })
+}
+
 fn read_only_number(words: &[&str]) -> Result<u8, String> {
     match words {
         [number] => read_number(number),
@@ -327,6 +359,29 @@ mod tests {
     #[test]
     fn merged_calls_that_are_cut() {
         for line in ["exchange 1 5F002F00", "exchange 1 -> 4 0 -", "exchange -> 4 0 -", "exchange 1 5F -> 4 0"] {
+            assert!(read_cases(&format!("case cut\n{line}\n")).is_err(), "{line}");
+        }
+    }
+
+    #[test]
+    fn lists_and_goings_back() {
+        let text = "case old\nversions 16 -> 0 2 16\ngo_back 1 65537 -> 14 0 0\n";
+        let cases = read_cases(text).unwrap();
+        let told = |line: &Line| match &line.step {
+            Step::Versions { farm, wanted } => (*farm, 0, wanted.to_string()),
+            Step::GoBack { farm, version, wanted } => (*farm, *version, wanted.to_string()),
+            _ => panic!("line {}", line.number),
+        };
+        let read: Vec<_> = cases[0].steps.iter().map(told).collect();
+        assert_eq!(read, [(16, 0, "0 2 16".to_string()), (1, 65537, "14 0 0".to_string())]);
+    }
+
+    #[test]
+    fn lists_and_goings_back_that_are_cut() {
+        let lists =
+            ["versions -> 0 1 0", "versions 1", "versions 1 -> 0 1", "versions 1 1 -> 0 1 0", "versions 1 -> 0 1 0 0"];
+        let backs = ["go_back 1 -> 14 0 0", "go_back 1 1", "go_back 1 1 -> 14", "go_back 1 4294967296 -> 14 0 0"];
+        for line in lists.into_iter().chain(backs) {
             assert!(read_cases(&format!("case cut\n{line}\n")).is_err(), "{line}");
         }
     }

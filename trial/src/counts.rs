@@ -25,6 +25,11 @@ impl Counts {
         *self.0.entry(number).or_default() += 1;
     }
 
+    /// How often any was met.
+    pub fn total(&self) -> u64 {
+        self.0.values().sum()
+    }
+
     fn times(&self, number: u8) -> u64 {
         self.0.get(&number).copied().unwrap_or(0)
     }

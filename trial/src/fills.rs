@@ -205,6 +205,7 @@ fn suspect(block: &[u8], first: usize) -> Option<usize> {
 #[cfg(test)]
 mod tests {
     use super::*;
+    use twin::Settings;
 
     fn of_change(values: &[u8], count: u8) -> Option<(u8, Fault)> {
         let mut block = vec![7, 2, 1, count];
@@ -251,7 +252,8 @@ mod tests {
         assert_eq!(counted(&with(&one, 7)), [0, 1, 0, 0]);
         assert_eq!(counted(&with(&one, 9)), [0, 0, 1, 0]);
         assert_eq!(counted(&with(&[7, 1, 2, 1, 0x41, 2, 3, 41], 9)), [0, 0, 0, 1]);
-        assert_eq!(counted(&Axis { p10111: 0, ..with(&one, 7) }), [0; 4], "the part has another fault");
+        let settings = Settings { p10111: 0, ..Settings::fresh() };
+        assert_eq!(counted(&Axis { settings, ..with(&one, 7) }), [0; 4], "the part has another fault");
         assert_eq!(counted(&with(&[7, 1, 2, 1, 0x41, 1, 3, 9], 7)), [0; 4], "unused bytes are not 0");
         assert_eq!(counted(&with(&one, 255)), [0; 4]);
     }

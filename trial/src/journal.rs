@@ -8,6 +8,7 @@ use std::io::{self, ErrorKind, Read};
 use twin::REPLY_MIN;
 
 const CYCLE_BODY: usize = 10;
+const RETURN_BODY: usize = 3;
 /// Bytes that a record has for its frame.
 pub const FRAME_ROOM: usize = 244;
 
@@ -18,6 +19,8 @@ pub enum Record {
     Cycle(u8, Inputs),
     /// Kinds 2 and 3: a frame of this farm, sent so.
     Frame(u8, Sending, Vec<u8>),
+    /// Kind 4: a going back of this farm to this version.
+    GoBack(u8, u16),
 }
 
 /// What comes next in a journal.
@@ -41,6 +44,7 @@ pub fn next(input: &mut impl Read) -> io::Result<Next> {
         [1] => cycle(input)?,
         [2] => frame(input, Sending::Alone)?,
         [3] => frame(input, Sending::Merged)?,
+        [4] => go_back(input)?,
         _ => None,
     };
     Ok(record.map_or(Next::Bad, Next::Record))
@@ -71,6 +75,13 @@ fn frame(input: &mut impl Read, sending: Sending) -> io::Result<Option<Record>> 
     Ok(frame.filter(|_| whole).map(|(frame, _)| Record::Frame(farm, sending, frame.to_vec())))
 }
 
+fn go_back(input: &mut impl Read) -> io::Result<Option<Record>> {
+    let mut body = [0; RETURN_BODY];
+    let whole = fill(input, &mut body)?;
+    let [farm, high, low] = body;
+    Ok(whole.then_some(Record::GoBack(farm, u16::from_be_bytes([high, low]))))
+}
+
 /// A fresh station of the library.
 pub fn station() -> Vec<u8> {
     let mut station = vec![0; face::size()];
@@ -78,11 +89,15 @@ pub fn station() -> Vec<u8> {
     station
 }
 
-/// Plays the record in this place, counted from 1: the exchanges that it was, none for a cycle.
+/// Plays the record in this place, counted from 1: the exchanges that it was, none where it has no frame.
 pub fn play(station: &mut [u8], record: Record, place: u64) -> Vec<Answered> {
     match record {
         Record::Cycle(axis, i) => {
             face::cycle(station, axis.into(), i.flags, i.stw1, i.nsoll, i.nist, i.fault);
+            Vec::new()
+        }
+        Record::GoBack(farm, version) => {
+            face::go_back(station, farm.into(), version.into());
             Vec::new()
         }
         Record::Frame(farm, sending, frame) => {
@@ -107,10 +122,11 @@ mod tests {
     }
 
     #[test]
-    fn a_cycle_a_frame_a_merged_call_and_the_end() {
+    fn a_record_of_each_kind_and_the_end() {
         let mut journal = vec![1, 3, 2, 0x04, 0x7F, 0x20, 0x00, 0xFF, 0xFF, 0x00, 0x09];
         journal.extend(frame_record(2, 4, &[0x5E, 0, 47, 0xF0]));
         journal.extend(frame_record(3, 4, &[0x5F, 0, 47, 0]));
+        journal.extend([4, 2, 0x12, 0x34]);
         let mut input = journal.as_slice();
         let Ok(Next::Record(Record::Cycle(3, i))) = next(&mut input) else { panic!("no cycle") };
         assert_eq!((i.flags, i.stw1, i.nsoll, i.nist, i.fault), (2, 0x047F, 0x2000, -1, 9));
@@ -120,6 +136,7 @@ mod tests {
             panic!("no merged call")
         };
         assert_eq!(frame, [0x5F, 0, 47, 0]);
+        assert!(matches!(next(&mut input), Ok(Next::Record(Record::GoBack(2, 0x1234)))));
         assert!(matches!(next(&mut input), Ok(Next::End)));
     }
 
@@ -131,7 +148,7 @@ mod tests {
 
     #[test]
     fn bad_records() {
-        assert_bad(&[&[0], &[4], &[1, 1, 0]]);
+        assert_bad(&[&[0], &[5], &[1, 1, 0], &[4], &[4, 1, 0]]);
         for kind in [2, 3] {
             let cut = &frame_record(kind, 4, &[0x5E, 0, 47, 0xF0])[..246];
             assert_bad(&[&[kind], cut, &frame_record(kind, 245, &[]), &frame_record(kind, 3, &[1, 2, 3, 4])]);

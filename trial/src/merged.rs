@@ -10,7 +10,7 @@ use twin::{Axis, Framed, AXES, BLOCK_MAX};
 
 const WHEN: [&str; 2] = ["while none waits", "while a response waits"];
 /// Refusal numbers, 0 for none, at both times.
-const IDLE_NUMBERS: [u8; 10] = [0, 1, 2, 3, 4, 5, 6, 7, 10, 11];
+const IDLE_NUMBERS: [u8; 11] = [0, 1, 2, 3, 4, 5, 6, 7, 10, 11, 15];
 const WAITING_NUMBERS: [u8; 7] = [2, 3, 4, 5, 6, 7, 8];
 /// Refusal numbers of a read that come before its own.
 const BEFORE_READ: [u8; 3] = [1, 2, 3];

@@ -20,7 +20,7 @@
 //! | response | IODReadRes, status OK, the block as data |
 //! | refusal with a code | the reply's own bytes DE or DF, 80 and code as ErrorCode, ErrorDecode and ErrorCode1 |
 //! | refusal without a reply | DE 80 A0 or DF 80 A1 (application: read or write error): the library answered nothing |
-//! | refusal number | ErrorCode2, where the reply itself has 00 |
+//! | refusal number | ErrorCode2, where the reply itself has 00: it tells number 15, whose own code is A1, from 1 to 4 |
 //! | elements stored | AdditionalValue1 |
 //!
 //! Farm k (0 to 255, as sent) has the address 10.47.1.k, the hardware address 02:00:00:00:01:k and the SubslotNumber k; the
@@ -29,8 +29,8 @@
 //! A merged call that was done is the two exchanges that it stands for: its write, acknowledged, with the elements stored;
 //! and the fetch 5E 00 2F F0 with the response. One that was refused is its frame alone, with the refusal: a read too.
 //!
-//! Cycles are no frames and are not in a capture. Times are made up: record n of a journal, cycles counted too, is sent n
-//! milliseconds after the start of 1970, and its packets part that millisecond in equal steps: a frame is answered half a
+//! Cycles and goings back are no frames and are not in a capture. Times are made up: record n of a journal, these counted too,
+//! is sent n milliseconds after the start of 1970, and its packets part that millisecond in equal steps: a frame is answered half a
 //! millisecond later, the write of a merged call a quarter, and then its fetch follows. n is also the DCE/RPC sequence
 //! number, and its low 16 bits are the SeqNumber, in all packets of the record.
 
@@ -335,6 +335,7 @@ mod tests {
         assert_eq!(told(&write, 0, &[0x5F, 0, 47, 16]), ([0; 4], 16, vec![]));
         assert_eq!(told(&read, 0, &[0x5E, 0, 47, 4, 7, 2, 1, 1]), ([0; 4], 4, vec![7, 2, 1, 1]));
         assert_eq!(told(&write, 11, &[0xDF, 0x80, 0xB6, 0]), ([0xDF, 0x80, 0xB6, 11], 0, vec![]));
+        assert_eq!(told(&write, 15, &[0xDF, 0x80, 0xA1, 0]), ([0xDF, 0x80, 0xA1, 15], 0, vec![]));
         assert_eq!(told(&read, 1, &[]), ([0xDE, 0x80, 0xA0, 1], 0, vec![]));
         assert_eq!(told(&[0x5D], 4, &[]), ([0xDF, 0x80, 0xA1, 4], 0, vec![]));
     }

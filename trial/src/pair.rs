@@ -2,15 +2,16 @@
 
 use crate::checks::Check;
 use crate::face;
-use crate::meaning::{decode, encode, PART, STATION};
-use crate::sending::{in_turn, Sending};
+use crate::meaning::{decode, encode, slot, PART, STATION};
+use crate::sending::{in_turn, read_settings, values_of, Sending};
 use crate::words::Inputs;
 use std::fmt::{self, Display, Formatter};
 use std::ops::Range;
-use twin::{Axis, Cycled, Framed, Station, AXES};
+use twin::{Axis, Cycled, Framed, Listed, Returned, Station, AXES, KEPT};
 
-/// Bytes before and after the lent station, and after the lent reply, that no call may touch.
-pub const GUARD: usize = 512;
+/// Bytes before and after the lent station, and after the lent reply, that no call may touch: at least a part, as which they
+/// are lent where the memory is too long.
+pub const GUARD: usize = 1024;
 const GUARD_BYTE: u8 = 0xA5;
 /// Most reply memory that is lent.
 pub const REPLY_MAX: usize = 600;
@@ -24,14 +25,31 @@ pub enum Call {
     Cycle(u32, Inputs),
     /// A frame of this farm, how it is sent, and how much reply memory it is lent.
     Frame(u32, Sending, Vec<u8>, usize),
+    /// A list of this farm's versions.
+    List(u32),
+    /// A going back of this farm to this version.
+    GoBack(u32, u32),
     /// A check, which is lent no station.
     Check(Check),
 }
 
 impl Call {
+    /// The farm or axis, where the call has one.
+    pub fn caller(&mut self) -> Option<&mut u32> {
+        match self {
+            Call::Cycle(number, _) | Call::Frame(number, ..) | Call::List(number) | Call::GoBack(number, _) => {
+                Some(number)
+            }
+            Call::Fresh | Call::Check(_) => None,
+        }
+    }
+
     /// The index of the owner's part, if the call has one.
     pub fn owner(&self) -> Option<usize> {
-        let (Call::Cycle(number, _) | Call::Frame(number, ..)) = self else { return None };
+        let (Call::Cycle(number, _) | Call::Frame(number, ..) | Call::List(number) | Call::GoBack(number, _)) = self
+        else {
+            return None;
+        };
         (1..=AXES).find(|owner| *owner as u32 == *number).map(|owner| owner - 1)
     }
 
@@ -54,6 +72,8 @@ impl Display for Call {
             Call::Frame(farm, sending, frame, reply) => {
                 write!(f, "{sending} farm {farm:X} reply memory {reply} frame {}", hex(frame))
             }
+            Call::List(farm) => write!(f, "list farm {farm:X}"),
+            Call::GoBack(farm, version) => write!(f, "going back farm {farm:X} version {version:X}"),
             Call::Check(check) => write!(f, "{check}"),
         }
     }
@@ -68,6 +88,10 @@ pub enum Answer {
     Cycle(Cycled),
     /// The answer of a frame, however it was sent.
     Frame(Framed),
+    /// The versions that are kept.
+    List(Listed),
+    /// The answer of a going back.
+    GoBack(Returned),
     /// 0 or the first check that failed.
     Check(u8),
 }
@@ -77,12 +101,22 @@ impl Answer {
         Answer::Frame(Framed { length, stored, number })
     }
 
+    fn listed(face::Listed { oldest, kept, number }: face::Listed) -> Answer {
+        Answer::List(Listed { oldest, kept, number })
+    }
+
+    fn returned(face::Returned { stored, version, number }: face::Returned) -> Answer {
+        Answer::GoBack(Returned { stored, version, number })
+    }
+
     /// 0, or the refusal number or that of a check.
     pub fn number(&self) -> u8 {
         match self {
             Answer::Fresh(number) | Answer::Check(number) => *number,
             Answer::Cycle(cycled) => cycled.number,
             Answer::Frame(framed) => framed.number,
+            Answer::List(listed) => listed.number,
+            Answer::GoBack(returned) => returned.number,
         }
     }
 }
@@ -180,6 +214,19 @@ impl Pair {
         Ok(answer)
     }
 
+    /// Makes the call in the same way, and after a going back that was done reads all settings by the library's own calls, on a
+    /// copy of our memory: they are those that stood in that version before.
+    pub fn call_and_read(&mut self, call: &Call, bytes: usize, pattern: u8) -> Result<Answer, Difference> {
+        let answer = self.compared(call, bytes, pattern)?;
+        if let (Call::GoBack(farm, version), Some(owner), 0) = (call, call.owner(), answer.number()) {
+            let wanted = slot(self.part_before(owner), (*version as usize - 1) % KEPT);
+            let read = read_settings(&mut self.memory[GUARD..GUARD + bytes].to_vec(), *farm);
+            same_bytes("settings that are read after it, and those of that version", &read, &values_of(&wanted))?;
+        }
+        self.keep(call, answer.number());
+        Ok(answer)
+    }
+
     /// Makes the call of both and compares; what was before it still stands, to be told beside a difference.
     fn compared(&mut self, call: &Call, bytes: usize, pattern: u8) -> Result<Answer, Difference> {
         let twin = self.call_twin(call, bytes, pattern);
@@ -190,7 +237,7 @@ impl Pair {
         }
         same_bytes("reply memory", &self.ours_reply, &self.twin_reply)?;
         match call {
-            Call::Fresh if ours.number() == 0 => self.compare_all()?,
+            Call::Fresh if ours.number() == 0 => self.compare_fresh()?,
             _ => self.compare_part(call.owner(), ours.number())?,
         }
         self.compare_rest(call, ours.number())?;
@@ -210,6 +257,8 @@ impl Pair {
                 self.ours_reply.fill(pattern);
                 Answer::framed(sending.ours(station, *farm, frame, &mut self.ours_reply[..*reply]))
             }
+            Call::List(farm) => Answer::listed(face::versions(station, *farm)),
+            Call::GoBack(farm, version) => Answer::returned(face::go_back(station, *farm, *version)),
             Call::Check(check) => Answer::Check(face::check(&check.request, &check.response)),
         }
     }
@@ -235,6 +284,12 @@ impl Pair {
                 }
                 Answer::Frame(sending.twins(&mut self.twin, *farm, frame, &mut self.twin_reply[..*reply]))
             }
+            Call::List(_) if second && call.owner().is_some() => Answer::List(Listed { oldest: 0, kept: 0, number: 2 }),
+            Call::List(farm) => Answer::List(self.twin.versions(*farm)),
+            Call::GoBack(..) if second && call.owner().is_some() => {
+                Answer::GoBack(Returned { stored: 0, version: 0, number: 2 })
+            }
+            Call::GoBack(farm, version) => Answer::GoBack(self.twin.go_back(*farm, *version)),
             Call::Check(check) => Answer::Check(twin::check(&check.request, &check.response)),
         }
     }
@@ -245,7 +300,27 @@ impl Pair {
         if number != 0 {
             return same_bytes("the owner's part after a refusal", self.part(owner), self.part_before(owner));
         }
-        self.compare_meaning(owner)
+        self.compare_meaning(owner)?;
+        self.compare_other_slots(owner)
+    }
+
+    /// Slots that hold no version are left, whatever they hold: to the twin they mean nothing.
+    fn compare_other_slots(&self, owner: usize) -> Result<(), Difference> {
+        let (ours, before) = (self.part(owner), self.part_before(owner));
+        let mut others = self.twin.axes[owner].versions.kept.len()..KEPT;
+        match others.find(|other| slot(ours, *other) != slot(before, *other)) {
+            None => Ok(()),
+            Some(other) => {
+                let told = |part| format!("{:?}", slot(part, other));
+                Err(differ(format!("slot {other}, which holds no version"), told(ours), told(before)))
+            }
+        }
+    }
+
+    /// A fresh station has one meaning and one form.
+    fn compare_fresh(&self) -> Result<(), Difference> {
+        let fresh = encode(&Axis::fresh());
+        (0..AXES).try_for_each(|index| same_bytes(&format!("fresh part {}", index + 1), self.part(index), &fresh))
     }
 
     fn compare_meaning(&self, index: usize) -> Result<(), Difference> {
@@ -279,6 +354,7 @@ impl Pair {
 fn own(call: &Call, number: u8) -> Range<usize> {
     match (call, call.owner()) {
         (Call::Fresh, _) if number == 0 => GUARD..GUARD + STATION,
+        (Call::List(_), _) => 0..0,
         (_, Some(owner)) => GUARD + owner * PART..GUARD + (owner + 1) * PART,
         _ => 0..0,
     }

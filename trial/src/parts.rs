@@ -2,18 +2,27 @@
 
 use crate::blocks::{any_values, misfilled};
 use crate::layout::{Block, Values};
-use crate::meaning::{encode, place, Field, PART};
+use crate::meaning::{encode, place, put_slot, Field, PART};
 use crate::random::Random;
-use twin::{Axis, State, Waiting, BLOCK_MAX, CODES, SITUATIONS};
+use twin::{Axis, Settings, State, Versions, Waiting, BLOCK_MAX, CODES, KEPT, SITUATIONS};
+
+/// One in so many elements is just below its limits, and as many just above: of the settings, and of a version.
+const ONE_OVER_OF: usize = 200;
+const ONE_OVER_IN_VERSIONS_OF: usize = 5000;
 
 /// The bytes of a part of this axis, mostly well-formed.
 pub fn part(random: &mut Random, axis: u8) -> [u8; PART] {
     let mut planted = drive(random);
-    limits(random, &mut planted);
+    planted.settings = settings(random, ONE_OVER_OF);
+    planted.versions = versions(random);
     if random.percent(65) {
         planted.waiting = Some(waiting(random, axis));
     }
     let mut part = encode(&planted);
+    // A slot that holds no version may hold other settings than fresh ones.
+    for slot in (planted.versions.kept.len()..KEPT).filter(|slot| slot % 2 == 0) {
+        put_slot(&mut part, slot, &settings(random, ONE_OVER_IN_VERSIONS_OF));
+    }
     match random.below(40) {
         0 => part[place(Field::State)] = random.pick(&[0, 5, 6, 50, 53, 255]),
         1 => part[place(Field::Length)] = random.pick(&[0, 1, 3, 4, 239, 240, 241, 255]),
@@ -53,25 +62,34 @@ fn situations(random: &mut Random) -> [[u16; CODES]; SITUATIONS] {
     situations
 }
 
-/// The writable elements, at and inside their limits and seldom one over them.
-fn limits(random: &mut Random, axis: &mut Axis) {
-    axis.p9900 = random.word();
-    axis.p9901 = std::array::from_fn(|_| random.word());
-    axis.p10111 = element(random, 1, 60000) as u16;
-    axis.p30001 = std::array::from_fn(|_| element(random, 0, 3000) as u16);
-    axis.p30002 = element(random, 0, 16384) as u16;
-    axis.p30003 = element(random, 0, 32767) as u16;
-    axis.p30004 = std::array::from_fn(|_| element(random, -100_000, 100_000));
-}
-
-fn element(random: &mut Random, low: i32, high: i32) -> i32 {
-    match random.below(200) {
+/// Settings at and inside their limits, and seldom over them: one element in so many on each side.
+fn settings(random: &mut Random, one_over_of: usize) -> Settings {
+    let mut element = |low, high| match random.below(one_over_of) {
         0 => low - 1,
         1 => high + 1,
-        2..=40 => low,
-        41..=80 => high,
+        other if other % 5 == 0 => low,
+        other if other % 5 == 1 => high,
         _ => random.within(low, high),
+    };
+    Settings {
+        p10111: element(1, 60000) as u16,
+        p30001: std::array::from_fn(|_| element(0, 3000) as u16),
+        p30002: element(0, 16384) as u16,
+        p30003: element(0, 32767) as u16,
+        p30004: std::array::from_fn(|_| element(-100_000, 100_000)),
+        p9900: random.word(),
+        p9901: std::array::from_fn(|_| random.word()),
     }
+}
+
+/// Versions up to any number: none, around a first and a second round of the slots, and near the last number there is.
+fn versions(random: &mut Random) -> Versions {
+    let any = random.word();
+    let near_the_end = 65535 - random.below(4) as u16;
+    let last = random.pick(&[0, 1, 2, 14, 15, 15, 16, 16, 17, 31, 32, any, any, near_the_end, near_the_end, 65534]);
+    let kept = last.min(KEPT as u16);
+    let kept_settings = (0..kept).map(|_| settings(random, ONE_OVER_IN_VERSIONS_OF));
+    Versions { dropped: last - kept, kept: kept_settings.collect() }
 }
 
 /// Blocks that no response has: format, bytes of a value, values.

@@ -4,6 +4,7 @@ use crate::blocks::Kind;
 use crate::checks::Checks;
 use crate::counts::{named, names, place, unmet, Counts, Worked};
 use crate::fills::Fills;
+use crate::kept::Kept;
 use crate::merged::Merged;
 use crate::sending::Sending;
 use crate::words::Inputs;
@@ -39,7 +40,7 @@ const KINDS: [(Kind, &str); 4] =
     [(Kind::Request, "request"), (Kind::Change, "change"), (Kind::Read, "read"), (Kind::Free, "any bytes")];
 /// Refusal numbers with which a cycle and a frame can be answered, 0 for none.
 const CYCLE_NUMBERS: [u8; 4] = [0, 1, 2, 12];
-const FRAME_NUMBERS: [u8; 12] = [0, 1, 2, 3, 4, 5, 6, 7, 8, 9, 10, 11];
+const FRAME_NUMBERS: [u8; 13] = [0, 1, 2, 3, 4, 5, 6, 7, 8, 9, 10, 11, 15];
 /// Transitions of document 01's table.
 const STEPS: [(State, &[State]); 6] = [
     (State::S1, &[State::S2]),
@@ -83,6 +84,8 @@ pub struct Tally {
     pub fills: Fills,
     /// What was met of merged calls.
     pub merged: Merged,
+    /// What was met of old settings.
+    pub kept: Kept,
     /// What was met of checks.
     pub checks: Checks,
 }
@@ -157,6 +160,7 @@ impl Tally {
         missing.extend(unmet(&self.settings, &names(&SETTINGS)).map(|name| format!("memory {name}")));
         missing.extend(self.fills.missing());
         missing.extend(self.merged.missing());
+        missing.extend(self.kept.missing());
         missing.extend(self.checks.missing());
         missing
     }
@@ -167,7 +171,9 @@ impl Display for Tally {
         let [alone, merged] = [self.alone, self.in_merged].map(|kinds| named(&kinds, &names(&KINDS)));
         let Tally { cycles, fresh, .. } = self;
         let checks = self.settings[place(Setting::Unlent, &SETTINGS)];
-        writeln!(f, "calls      cycle {cycles}, frame: {alone}, merged call: {merged}, fresh {fresh}, check {checks}")?;
+        let (lists, backs) = self.kept.calls();
+        write!(f, "calls      cycle {cycles}, frame: {alone}, merged call: {merged}, list {lists}, ")?;
+        writeln!(f, "going back {backs}, fresh {fresh}, check {checks}")?;
         writeln!(f, "memory     {}", named(&self.settings, &names(&SETTINGS)))?;
         writeln!(f, "cycles     by number (0 accepted): {}", self.cycle_numbers.list(&CYCLE_NUMBERS))?;
         writeln!(f, "frames     by number (0 accepted): {}", self.frame_numbers.list(&FRAME_NUMBERS))?;
@@ -183,6 +189,6 @@ impl Display for Tally {
         for (name, counts) in self.worked.lines() {
             writeln!(f, "{name:10} {counts}")?;
         }
-        write!(f, "{}{}{}", self.fills, self.merged, self.checks)
+        write!(f, "{}{}{}{}", self.fills, self.merged, self.kept, self.checks)
     }
 }

@@ -108,9 +108,9 @@ fn actual_speed(random: &mut Random, part: &Axis, nsoll: i16) -> i16 {
     let speed = match random.below(8) {
         0..=3 => {
             let middle = random.pick(&[nsoll, nsoll, part.effective, part.last_setpoint, 0]);
-            i32::from(middle) + sign * (i32::from(part.p30002) + edge)
+            i32::from(middle) + sign * (i32::from(part.settings.p30002) + edge)
         }
-        4 | 5 => sign * (i32::from(part.p30003) + edge),
+        4 | 5 => sign * (i32::from(part.settings.p30003) + edge),
         6 => i32::from(random.pick(&SPEEDS)),
         _ => i32::from(random.word() as i16),
     };

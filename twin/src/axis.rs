@@ -1,6 +1,7 @@
 //! The station's memory: 16 axes, what a fresh one holds and when a part is well-formed.
 
 use crate::block::parse_response;
+use crate::versions::Versions;
 
 /// Axes (and farms) of a station.
 pub const AXES: usize = 16;
@@ -71,6 +72,44 @@ impl Waiting {
     }
 }
 
+/// The settings of a farm: the elements that can be written.
+#[derive(Clone, Debug, PartialEq, Eq)]
+pub struct Settings {
+    /// PNU 9900.
+    pub p9900: u16,
+    /// PNU 9901.
+    pub p9901: [u16; 8],
+    /// PNU 10111, revolutions per minute at 100 %.
+    pub p10111: u16,
+    /// PNU 30001, level marks in mm.
+    pub p30001: [u16; 4],
+    /// PNU 30002, largest distance that still counts as "setpoint reached".
+    pub p30002: u16,
+    /// PNU 30003, the speed that sets bit 10.
+    pub p30003: u16,
+    /// PNU 30004, site offsets.
+    pub p30004: [i32; 2],
+}
+
+impl Settings {
+    /// How many elements they are.
+    pub const ELEMENTS: u16 = 18;
+
+    /// The settings of a fresh station.
+    pub fn fresh() -> Settings {
+        Settings { p9900: 0, p9901: [0; 8], p10111: 1500, p30001: [0; 4], p30002: 164, p30003: 16384, p30004: [0; 2] }
+    }
+
+    /// Whether every element is inside its limits; PNU 9900 and 9901 may hold all of their type.
+    pub fn inside_limits(&self) -> bool {
+        (1..=60000).contains(&self.p10111)
+            && self.p30001.iter().all(|mark| *mark <= 3000)
+            && self.p30002 <= 16384
+            && self.p30003 <= 32767
+            && self.p30004.iter().all(|offset| (-100_000..=100_000).contains(offset))
+    }
+}
+
 /// One axis's part of the station.
 #[derive(Clone, Debug, PartialEq, Eq)]
 pub struct Axis {
@@ -94,20 +133,10 @@ pub struct Axis {
     pub p930: u16,
     /// PNU 965.
     pub p965: [u8; 2],
-    /// PNU 9900.
-    pub p9900: u16,
-    /// PNU 9901.
-    pub p9901: [u16; 8],
-    /// PNU 10111, revolutions per minute at 100 %.
-    pub p10111: u16,
-    /// PNU 30001, level marks in mm.
-    pub p30001: [u16; 4],
-    /// PNU 30002, largest distance that still counts as "setpoint reached".
-    pub p30002: u16,
-    /// PNU 30003, the speed that sets bit 10.
-    pub p30003: u16,
-    /// PNU 30004, site offsets.
-    pub p30004: [i32; 2],
+    /// What the farm has set.
+    pub settings: Settings,
+    /// What it had set before.
+    pub versions: Versions,
     /// The response that waits, if any.
     pub waiting: Option<Waiting>,
 }
@@ -126,13 +155,8 @@ impl Axis {
             situations: [[0; CODES]; SITUATIONS],
             p930: FIXED_930,
             p965: FIXED_965,
-            p9900: 0,
-            p9901: [0; 8],
-            p10111: 1500,
-            p30001: [0; 4],
-            p30002: 164,
-            p30003: 16384,
-            p30004: [0; 2],
+            settings: Settings::fresh(),
+            versions: Versions::none(),
             waiting: None,
         }
     }
@@ -156,33 +180,24 @@ impl Station {
         Station { axes: std::array::from_fn(|_| Axis::fresh()) }
     }
 
-    /// The number and part of a farm or axis, if it is one of 1 to 16.
-    pub(crate) fn part(&mut self, number: u32) -> Option<(u8, &mut Axis)> {
-        let number = u8::try_from(number).ok()?;
-        let index = usize::from(number).checked_sub(1)?;
-        Some((number, self.axes.get_mut(index)?))
+    /// The index of a farm's or an axis's part: number 1 where it is none of 1 to 16, 2 where its part is not well-formed.
+    pub(crate) fn own(&self, number: u32) -> Result<usize, u8> {
+        let index = (number as usize).checked_sub(1).filter(|index| *index < AXES).ok_or(1)?;
+        well_formed(&self.axes[index], number as u8).then_some(index).ok_or(2)
     }
 }
 
 /// Whether the part of this axis is well-formed, as far as these types leave it open.
 pub fn well_formed(part: &Axis, axis: u8) -> bool {
     fixed_well_formed(part)
-        && limits_well_formed(part)
+        && part.settings.inside_limits()
+        && part.versions.kept.iter().all(Settings::inside_limits)
         && part.situations.iter().all(situation_well_formed)
         && part.waiting.as_ref().is_none_or(|waiting| waiting_well_formed(waiting, axis))
 }
 
 fn fixed_well_formed(part: &Axis) -> bool {
     part.p930 == FIXED_930 && part.p965 == FIXED_965
-}
-
-/// PNU 9900 and 9901 may hold all of their type.
-fn limits_well_formed(part: &Axis) -> bool {
-    (1..=60000).contains(&part.p10111)
-        && part.p30001.iter().all(|mark| *mark <= 3000)
-        && part.p30002 <= 16384
-        && part.p30003 <= 32767
-        && part.p30004.iter().all(|offset| (-100_000..=100_000).contains(offset))
 }
 
 /// No code stands after a 0 or twice.

@@ -1,6 +1,6 @@
 //! The control cycle of one axis.
 
-use crate::axis::{well_formed, Axis, State, Station, CODES, SITUATIONS};
+use crate::axis::{Axis, State, Station, CODES, SITUATIONS};
 
 /// The answer of a cycle; `number` is 0 for an accepted one, else the refusal, and the rest is 0.
 #[derive(Clone, Copy, Debug, PartialEq, Eq)]
@@ -42,14 +42,11 @@ impl Station {
 
     /// The same cycle, with what it did; else the number of its refusal.
     pub fn run(&mut self, axis: u32, flags: u32, stw1: u16, nsoll: i16, nist: i16, fault: u16) -> Result<Ran, u8> {
-        let (axis, part) = self.part(axis).ok_or(1)?;
-        if !well_formed(part, axis) {
-            return Err(2);
-        }
+        let index = self.own(axis)?;
         if flags > 3 {
             return Err(12);
         }
-        Ok(accepted(part, flags, stw1, nsoll, nist, fault))
+        Ok(accepted(&mut self.axes[index], flags, stw1, nsoll, nist, fault))
     }
 }
 
@@ -69,7 +66,7 @@ fn accepted(part: &mut Axis, flags: u32, stw1: u16, nsoll: i16, nist: i16, fault
     part.last_setpoint = setpoint;
     part.actual = nist;
 
-    let rpm = rpm(part.effective, part.p10111);
+    let rpm = rpm(part.effective, part.settings.p10111);
     let cycled = Cycled { rpm, status: part.status, state: part.state.code(), number: 0 };
     Ran { cycled, from, to: part.state, acknowledged }
 }
@@ -145,8 +142,8 @@ fn effective_setpoint(part: &Axis, word: u16, setpoint: i16) -> i16 {
 /// Step 6; the part already holds the new state and effective setpoint.
 fn status_word(part: &Axis, word: u16, nist: i16, warning: bool) -> u16 {
     let distance = (i32::from(part.effective) - i32::from(nist)).abs();
-    let near = distance <= i32::from(part.p30002);
-    let fast = i32::from(nist).abs() >= i32::from(part.p30003);
+    let near = distance <= i32::from(part.settings.p30002);
+    let fast = i32::from(nist).abs() >= i32::from(part.settings.p30003);
     state_bits(part.state)
         | u16::from(part.faulted()) << 3
         | u16::from(bit(word, 1)) << 4

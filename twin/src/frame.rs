@@ -1,6 +1,6 @@
 //! DP-V1 frames, and the one call that sends a write and fetches its response.
 
-use crate::axis::{well_formed, Axis, Station, Waiting, BLOCK_MAX};
+use crate::axis::{Axis, Settings, Station, Waiting, BLOCK_MAX};
 use crate::block::{parse_request, Request, RequestKind, FORMAT_ERROR, FORMAT_ZERO};
 use crate::parameter;
 
@@ -38,10 +38,10 @@ impl Framed {
 impl Station {
     /// Works one frame of a farm; bytes of `reply` past the answered length stay as they are.
     pub fn frame(&mut self, farm: u32, frame: &[u8], reply: &mut [u8]) -> Framed {
-        let Some((axis, part)) = self.part(farm) else { return Framed::empty(1) };
-        if !well_formed(part, axis) {
-            return Framed::empty(2);
-        }
+        let own = match self.own(farm) {
+            Ok(own) => own,
+            Err(number) => return Framed::empty(number),
+        };
         if reply.len() < REPLY_MIN {
             return Framed::empty(3);
         }
@@ -49,9 +49,10 @@ impl Station {
         else {
             return Framed::empty(4);
         };
+        let part = &mut self.axes[own];
         let done = check_header(function, slot, index, length, block).and_then(|()| match function {
             READ => fetch(part, length, reply),
-            _ => write(part, axis, length, block, reply),
+            _ => write(part, farm as u8, length, block, reply),
         });
         done.unwrap_or_else(|number| refuse(function, number, reply))
     }
@@ -84,7 +85,7 @@ fn check_header(function: u8, slot: u8, index: u8, length: u8, block: &[u8]) -> 
     Ok(())
 }
 
-/// Numbers 5 to 11.
+/// Numbers 5 to 11, and 15.
 fn refuse(function: u8, number: u8, reply: &mut [u8]) -> Framed {
     reply[..HEADER].copy_from_slice(&[function | FAILED, 0x80, refusal_code(number), 0x00]);
     Framed { length: HEADER as u16, stored: 0, number }
@@ -99,6 +100,7 @@ fn refusal_code(number: u8) -> u8 {
         9 => 0xB7,
         10 => 0xB8,
         11 => 0xB6,
+        15 => 0xA1,
         _ => unreachable!("number {number} has no code"),
     }
 }
@@ -127,7 +129,7 @@ fn write(part: &mut Axis, axis: u8, length: u8, block: &[u8], reply: &mut [u8]) 
     }
     let (response, stored) = match request.kind {
         RequestKind::Request => (work_request(part, &request), 0),
-        RequestKind::Change => work_change(part, &request),
+        RequestKind::Change => change(part, &request)?,
     };
     part.waiting = Some(response);
     reply[..HEADER].copy_from_slice(&[WRITE, SLOT, INDEX, length]);
@@ -149,12 +151,22 @@ fn work_request(part: &Axis, request: &Request) -> Waiting {
     response
 }
 
-/// The response to a change, 02 or 82, and the elements stored.
-fn work_change(part: &mut Axis, request: &Request) -> (Waiting, u16) {
+/// A change: its response, and the elements stored. Where it would store any, that is a new version, or number 15.
+fn change(part: &mut Axis, request: &Request) -> Result<(Waiting, u16), u8> {
+    let mut settings = part.settings.clone();
+    let (response, stored) = work_change(&mut settings, request);
+    if stored > 0 {
+        part.store(settings)?;
+    }
+    Ok((response, stored))
+}
+
+/// The response to a change, 02 or 82, and the elements that it stores in these settings.
+fn work_change(settings: &mut Settings, request: &Request) -> (Waiting, u16) {
     let mut response = start_response(request, 0x02);
     let mut stored = 0;
     for (address, values) in request.addresses().zip(request.values()) {
-        match parameter::change(part, &address, &values) {
+        match parameter::change(settings, &address, &values) {
             Ok(elements) => {
                 stored += elements;
                 append(&mut response, &[FORMAT_ZERO, 0]);

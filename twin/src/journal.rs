@@ -4,6 +4,7 @@ use crate::axis::{State, Station};
 use crate::cycle::Cycled;
 use crate::frame::{Framed, REPLY_MIN};
 use crate::record::{Journal, Next, Record};
+use crate::versions::Returned;
 use std::io::{self, BufWriter, Read, Write};
 
 const BUFFER: usize = 1 << 16;
@@ -44,6 +45,10 @@ fn play(station: &mut Station, record: &Record, output: &mut impl Write) -> io::
             let framed = station.exchange(farm.into(), frame, &mut reply);
             write_frame(output, 'e', farm, &framed, &reply)
         }
+        Record::GoBack { farm, version } => {
+            let returned = station.go_back(farm.into(), version.into());
+            write_return(output, farm, &returned)
+        }
     }
 }
 
@@ -52,6 +57,14 @@ fn write_cycle(output: &mut impl Write, axis: u8, cycled: &Cycled) -> io::Result
         writeln!(output, "x {}", cycled.number)
     } else {
         writeln!(output, "c {axis} {} {:04X} {}", state_name(cycled.state), cycled.status, cycled.rpm)
+    }
+}
+
+fn write_return(output: &mut impl Write, farm: u8, returned: &Returned) -> io::Result<()> {
+    if returned.number != 0 {
+        writeln!(output, "x {}", returned.number)
+    } else {
+        writeln!(output, "g {farm} {} {}", returned.stored, returned.version)
     }
 }
 

@@ -1,6 +1,6 @@
 //! The parameters of an axis, and the rules by which one address is read or changed.
 
-use crate::axis::{Axis, CODES, SITUATIONS};
+use crate::axis::{Axis, Settings, CODES, SITUATIONS};
 use crate::block::{fill_length, Address, Values, SIZE_BYTE, SIZE_DOUBLE, SIZE_WORD};
 
 /// Error words of an address.
@@ -170,30 +170,30 @@ impl Parameter {
             Parameter::P944 => part.fault_counter.into(),
             Parameter::P947 => part.situations[element / CODES][element % CODES].into(),
             Parameter::P965 => part.p965[element].into(),
-            Parameter::P9900 => part.p9900.into(),
-            Parameter::P9901 => part.p9901[element].into(),
+            Parameter::P9900 => part.settings.p9900.into(),
+            Parameter::P9901 => part.settings.p9901[element].into(),
             Parameter::P10100 => part.last_word.into(),
             Parameter::P10101 => part.last_setpoint.into(),
             Parameter::P10102 => part.status.into(),
             Parameter::P10103 => part.actual.into(),
-            Parameter::P10111 => part.p10111.into(),
-            Parameter::P30001 => part.p30001[element].into(),
-            Parameter::P30002 => part.p30002.into(),
-            Parameter::P30003 => part.p30003.into(),
-            Parameter::P30004 => part.p30004[element],
+            Parameter::P10111 => part.settings.p10111.into(),
+            Parameter::P30001 => part.settings.p30001[element].into(),
+            Parameter::P30002 => part.settings.p30002.into(),
+            Parameter::P30003 => part.settings.p30003.into(),
+            Parameter::P30004 => part.settings.p30004[element],
         }
     }
 
     /// Stores a value inside the limits in an element that exists, of a writable parameter.
-    fn store(self, part: &mut Axis, element: usize, value: i32) {
+    fn store(self, settings: &mut Settings, element: usize, value: i32) {
         match self {
-            Parameter::P9900 => part.p9900 = value as u16,
-            Parameter::P9901 => part.p9901[element] = value as u16,
-            Parameter::P10111 => part.p10111 = value as u16,
-            Parameter::P30001 => part.p30001[element] = value as u16,
-            Parameter::P30002 => part.p30002 = value as u16,
-            Parameter::P30003 => part.p30003 = value as u16,
-            Parameter::P30004 => part.p30004[element] = value,
+            Parameter::P9900 => settings.p9900 = value as u16,
+            Parameter::P9901 => settings.p9901[element] = value as u16,
+            Parameter::P10111 => settings.p10111 = value as u16,
+            Parameter::P30001 => settings.p30001[element] = value as u16,
+            Parameter::P30002 => settings.p30002 = value as u16,
+            Parameter::P30003 => settings.p30003 = value as u16,
+            Parameter::P30004 => settings.p30004[element] = value,
             _ => unreachable!("{self:?} is not writable"),
         }
     }
@@ -249,7 +249,7 @@ pub(crate) fn read(part: &Axis, address: &Address, room: &mut [u8]) -> Result<us
 }
 
 /// Works one address of a change and answers how many elements it stored: all of them, or with an error none.
-pub(crate) fn change(part: &mut Axis, address: &Address, values: &Values) -> Result<u16, u8> {
+pub(crate) fn change(settings: &mut Settings, address: &Address, values: &Values) -> Result<u16, u8> {
     let Target { parameter, first, elements } = locate(address)?;
     let (low, high) = parameter.limits().ok_or(error::READ_ONLY)?;
     let kind = parameter.kind();
@@ -265,7 +265,7 @@ pub(crate) fn change(part: &mut Axis, address: &Address, values: &Values) -> Res
         return Err(error::LIMITS);
     }
     for (element, value) in (first..).zip(decoded) {
-        parameter.store(part, element, value);
+        parameter.store(settings, element, value);
     }
     Ok(u16::from(values.count))
 }

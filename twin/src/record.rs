@@ -7,6 +7,7 @@ const CYCLE_BODY: usize = 10;
 /// Bytes that a record has for its frame.
 pub const FRAME_MAX: usize = 244;
 const FRAME_BODY: usize = 2 + FRAME_MAX;
+const RETURN_BODY: usize = 3;
 
 /// A whole record.
 #[derive(Clone, Copy, Debug, PartialEq, Eq)]
@@ -18,6 +19,8 @@ pub enum Record<'a> {
     Frame { farm: u8, frame: &'a [u8] },
     /// Kind 3, the merged call with a frame.
     Exchange { farm: u8, frame: &'a [u8] },
+    /// Kind 4, a going back.
+    GoBack { farm: u8, version: u16 },
 }
 
 /// What comes next in a journal.
@@ -54,6 +57,7 @@ impl<R: Read> Journal<R> {
             1 => self.cycle()?,
             2 => self.frame()?.map(|(farm, frame)| Record::Frame { farm, frame }),
             3 => self.frame()?.map(|(farm, frame)| Record::Exchange { farm, frame }),
+            4 => self.go_back()?,
             _ => None,
         };
         Ok(record.map_or(Next::Bad, Next::Record))
@@ -78,6 +82,13 @@ impl<R: Read> Journal<R> {
         let [farm, length, ref room @ ..] = self.body;
         let Some((frame, unused)) = room.split_at_checked(length.into()) else { return Ok(None) };
         Ok(unused.iter().all(|byte| *byte == 0).then_some((farm, frame)))
+    }
+
+    fn go_back(&mut self) -> io::Result<Option<Record<'_>>> {
+        let mut body = [0; RETURN_BODY];
+        let whole = fill(&mut self.input, &mut body)?;
+        let [farm, high, low] = body;
+        Ok(whole.then_some(Record::GoBack { farm, version: u16::from_be_bytes([high, low]) }))
     }
 }
 

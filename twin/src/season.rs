@@ -4,6 +4,7 @@ use crate::axis::{State, Station, AXES};
 use crate::cycle::Ran;
 use crate::frame::{Framed, REPLY_MIN};
 use crate::record::{Journal, Next, Record};
+use crate::versions::Returned;
 use std::io::{self, BufWriter, Read, Write};
 
 /// Counts of one farm.
@@ -92,6 +93,10 @@ pub fn count(station: &mut Station, totals: &mut Totals, record: &Record) -> Res
             let framed = station.exchange(farm.into(), frame, &mut [0; REPLY_MIN]);
             add(totals, farm, &frame_counts(&framed))
         }
+        Record::GoBack { farm, version } => {
+            let returned = station.go_back(farm.into(), version.into());
+            add(totals, farm, &return_counts(&returned))
+        }
     }
 }
 
@@ -120,6 +125,13 @@ fn frame_counts(framed: &Framed) -> Counts {
     let mut counts = [0; COUNTS];
     counts[DENIED] = u64::from(framed.number == FOREIGN_AXIS);
     counts[STORED] = framed.stored.into();
+    counts
+}
+
+/// What a going back counts; a refused one has stored nothing.
+fn return_counts(returned: &Returned) -> Counts {
+    let mut counts = [0; COUNTS];
+    counts[STORED] = returned.stored.into();
     counts
 }
 

@@ -13,7 +13,7 @@ use std::io::{self, BufReader, BufWriter, Read, Write};
 use std::os::unix::fs::MetadataExt;
 use std::path::Path;
 use std::process::ExitCode;
-use trial::journal::{self, Next};
+use trial::journal::{self, Next, Record};
 use trial::packets::Capture;
 
 /// What was played. A merged call that was done is two exchanges.
@@ -21,6 +21,7 @@ use trial::packets::Capture;
 struct Played {
     records: u64,
     cycles: u64,
+    returns: u64,
     exchanges: u64,
     refused: u64,
     bad: bool,
@@ -42,14 +43,12 @@ fn main() -> ExitCode {
 }
 
 fn finish(played: &Played, journal: &OsStr, out: &OsStr) -> Result<ExitCode, String> {
-    let Played { records, cycles, exchanges, refused, bad } = *played;
+    let Played { records, cycles, returns, exchanges, refused, bad } = *played;
     let packets = 2 * exchanges;
     let name = Path::new(out).display();
-    writeln!(
-        io::stdout(),
-        "{name}: {packets} packets, {exchanges} exchanges ({refused} refused); {cycles} cycles left out"
-    )
-    .map_err(|error| format!("standard output: {error}"))?;
+    let left_out = format!("{cycles} cycles left out, and {returns} goings back");
+    writeln!(io::stdout(), "{name}: {packets} packets, {exchanges} exchanges ({refused} refused); {left_out}")
+        .map_err(|error| format!("standard output: {error}"))?;
     if !bad {
         return Ok(ExitCode::SUCCESS);
     }
@@ -98,8 +97,9 @@ fn play(
     let mut next = first;
     while let Next::Record(record) = next {
         played.records += 1;
+        played.cycles += u64::from(matches!(record, Record::Cycle(..)));
+        played.returns += u64::from(matches!(record, Record::GoBack(..)));
         let exchanges = journal::play(&mut station, record, played.records);
-        played.cycles += u64::from(exchanges.is_empty());
         played.exchanges += exchanges.len() as u64;
         played.refused += exchanges.iter().filter(|answered| answered.number != 0).count() as u64;
         capture.add(&exchanges).map_err(wrong(out))?;

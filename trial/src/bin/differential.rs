@@ -7,9 +7,10 @@ use std::process::ExitCode;
 use std::time::{Duration, Instant};
 use trial::blocks::{self, Kind};
 use trial::checks::{Check, Own};
+use trial::kept;
 use trial::layout::HEADER;
-use trial::meaning::{field_at, response_of, PART, STATION};
-use trial::merged::Made;
+use trial::meaning::{field_at, response_of, PART, STATION, VERSIONS};
+use trial::merged;
 use trial::pair::{hex, Answer, Call, Difference, Pair, GUARD, REPLY_MAX};
 use trial::parts;
 use trial::random::Random;
@@ -25,8 +26,8 @@ const SEED: u64 = 1;
 const ALL_PARTS: u64 = 1000;
 /// A run of so many calls that misses something the tally asks for has failed too.
 const REACHES_ALL: u64 = 200_000;
-/// One in so many merged calls is also made as the two calls that it stands for.
-const ONE_IN_TURN_OF: usize = 4;
+/// One in so many merged calls and goings back is judged by other calls of the library too.
+const ONE_JUDGED_OF: usize = 4;
 /// Farms, axes and thus owners that do not exist, some of which a silent conversion would make exist.
 const NOBODY: [u32; 10] = [0, 17, 18, 255, 256, 257, 272, 0x0001_0001, 0x8000_0001, u32::MAX];
 
@@ -94,6 +95,7 @@ fn run(options: &Options) -> Result<Tally, String> {
         tally: Tally::default(),
         own: Own::default(),
         altered: 0,
+        altered_versions: 0,
     };
     let start = Instant::now();
     let mut said = start;
@@ -122,8 +124,8 @@ struct Done {
     /// Bytes that the station was lent as.
     bytes: usize,
     kind: Kind,
-    /// Whether the two calls that it stands for were made beside it.
-    in_turn: bool,
+    /// Whether other calls of the library were made beside it: those that it stands for, or reads of what it left.
+    judged: bool,
 }
 
 /// A run under way.
@@ -133,6 +135,7 @@ struct Trial {
     tally: Tally,
     own: Own,
     altered: usize,
+    altered_versions: usize,
 }
 
 impl Trial {
@@ -141,11 +144,12 @@ impl Trial {
         let index = self.random.below(AXES);
         match self.random.below(1000) {
             0..=149 => self.altered(index)?,
-            150..=169 => self.altered_elsewhere(index)?,
-            170..=219 => self.planted(index)?,
-            220..=229 => self.resized(index)?,
-            230 if self.random.one_in(50) => self.call(Call::Fresh, STATION, Setting::Left, Kind::Free)?,
-            231..=320 => self.check()?,
+            150..=199 => self.altered_version(index)?,
+            200..=219 => self.altered_elsewhere(index)?,
+            220..=269 => self.planted(index)?,
+            270..=279 => self.resized(index)?,
+            280 if self.random.one_in(50) => self.call(Call::Fresh, STATION, Setting::Left, Kind::Free)?,
+            281..=370 => self.check()?,
             _ => {
                 let (call, kind) = self.make_call(index);
                 self.call(call, STATION, Setting::Left, kind)?;
@@ -157,21 +161,33 @@ impl Trial {
         Ok(())
     }
 
-    /// A byte of a part holds something else for one call, and is then put back: each in turn, until every one has held every
-    /// other value, and between times any one something near.
+    /// A byte of a part before its versions: each in turn, until every one has held every other value, and between times any
+    /// one something near.
     fn altered(&mut self, index: usize) -> Result<(), String> {
+        let part = *self.pair.part(index);
+        if self.random.one_in(3) {
+            let place = self.random.below(VERSIONS);
+            let byte = self.other_byte(part[place]);
+            return self.altered_to(index, place, byte);
+        }
+        let (place, more) = (self.altered % VERSIONS, self.altered / VERSIONS % 255);
+        self.altered += 1;
+        self.altered_to(index, place, part[place].wrapping_add(1 + more as u8))
+    }
+
+    /// A byte of the versions, each in turn: something near.
+    fn altered_version(&mut self, index: usize) -> Result<(), String> {
+        let place = VERSIONS + self.altered_versions % (PART - VERSIONS);
+        self.altered_versions += 1;
+        let byte = self.other_byte(self.pair.part(index)[place]);
+        self.altered_to(index, place, byte)
+    }
+
+    /// A byte of a part holds something else for one call, and is then put back.
+    fn altered_to(&mut self, index: usize, place: usize, byte: u8) -> Result<(), String> {
         let kept = *self.pair.part(index);
         let mut part = kept;
-        let place = if self.random.one_in(3) {
-            let place = self.random.below(PART);
-            part[place] = self.other_byte(kept[place]);
-            place
-        } else {
-            let (place, more) = (self.altered % PART, self.altered / PART % 255);
-            self.altered += 1;
-            part[place] = kept[place].wrapping_add(1 + more as u8);
-            place
-        };
+        part[place] = byte;
         self.pair.put(index, &part);
         let (call, kind) = self.make_call(index);
         let done = self.call(call, STATION, Setting::Altered, kind);
@@ -221,7 +237,7 @@ impl Trial {
         let sizes = [STATION - 1, STATION + 1, STATION - PART, STATION + PART, PART, 0, 1, STATION + GUARD];
         let bytes = self.random.pick(&sizes);
         let (mut call, kind) = if self.random.one_in(4) { (Call::Fresh, Kind::Free) } else { self.make_call(index) };
-        if let (true, Call::Cycle(number, _) | Call::Frame(number, ..)) = (self.random.one_in(8), &mut call) {
+        if let (true, Some(number)) = (self.random.one_in(8), call.caller()) {
             *number = self.random.pick(&NOBODY);
         }
         self.call(call, bytes, Setting::Resized, kind)
@@ -241,6 +257,12 @@ impl Trial {
         if random.percent(40) {
             return (Call::Cycle(number, words::inputs(random, part)), Kind::Free);
         }
+        if random.percent(4) {
+            return (Call::List(number), Kind::Free);
+        }
+        if random.percent(12) {
+            return (Call::GoBack(number, kept::version(random, &part.versions)), Kind::Free);
+        }
         let waiting = part.waiting.as_ref().map(|waiting| waiting.length);
         let (sending, kind, frame) = blocks::frame(random, index as u8 + 1, waiting);
         let reply = match random.below(40) {
@@ -256,15 +278,16 @@ impl Trial {
     fn call(&mut self, call: Call, bytes: usize, setting: Setting, kind: Kind) -> Result<(), String> {
         let before = call.owner().map(|owner| self.pair.axis(owner).clone());
         let pattern = self.random.byte();
-        let in_turn = matches!(call, Call::Frame(_, Sending::Merged, ..)) && self.random.one_in(ONE_IN_TURN_OF);
-        let made = if in_turn {
-            self.pair.call_and_in_turn(&call, bytes, pattern)
-        } else {
-            self.pair.call(&call, bytes, pattern)
+        let judged =
+            matches!(call, Call::Frame(_, Sending::Merged, ..) | Call::GoBack(..)) && self.random.one_in(ONE_JUDGED_OF);
+        let made = match call {
+            Call::Frame(..) if judged => self.pair.call_and_in_turn(&call, bytes, pattern),
+            Call::GoBack(..) if judged => self.pair.call_and_read(&call, bytes, pattern),
+            _ => self.pair.call(&call, bytes, pattern),
         };
         let answer = made.map_err(|difference| self.told(&call, bytes, setting, &difference))?;
         self.tally.setting(setting);
-        self.count(&Done { call, answer, before, bytes, kind, in_turn });
+        self.count(&Done { call, answer, before, bytes, kind, judged });
         Ok(())
     }
 
@@ -272,6 +295,9 @@ impl Trial {
         let sender = done.call.owner().zip(done.before.as_ref());
         if let (2, Some((owner, before))) = (done.answer.number(), sender) {
             self.tally.fills.ill_formed(before, owner as u8 + 1);
+            if done.bytes == STATION {
+                self.tally.kept.ill_formed(self.pair.part(owner), owner as u8 + 1);
+            }
         }
         match (&done.call, done.answer) {
             (Call::Cycle(_, inputs), Answer::Cycle(cycled)) => {
@@ -282,17 +308,26 @@ impl Trial {
             }
             (Call::Frame(_, sending, frame, _), Answer::Frame(framed)) => {
                 self.tally.sent(*sending, done.kind);
+                if let Some((owner, before)) = sender {
+                    self.tally.kept.framed(*sending, frame, &framed, before, self.pair.axis(owner));
+                }
                 match sending {
                     Sending::Alone => self.count_frame(sender, frame, framed),
                     Sending::Merged => {
-                        let (bytes, in_turn) = (done.bytes, done.in_turn);
+                        let (bytes, in_turn) = (done.bytes, done.judged);
                         let reply = &self.pair.reply()[..framed.length.into()];
-                        self.tally.merged.count(&Made { sender, bytes, frame, framed, reply, in_turn });
+                        self.tally.merged.count(&merged::Made { sender, bytes, frame, framed, reply, in_turn });
                         if framed.number == 0 {
                             self.own.merged(&frame[HEADER..], &reply[HEADER..]);
                         }
                     }
                 }
+            }
+            (Call::List(_), Answer::List(listed)) => self.tally.kept.listed(&listed),
+            (Call::GoBack(_, version), Answer::GoBack(returned)) => {
+                let parts = sender.map(|(owner, before)| (before, self.pair.axis(owner)));
+                let (version, read) = (*version, done.judged);
+                self.tally.kept.returned(&kept::Made { parts, version, returned, read });
             }
             (Call::Check(check), Answer::Check(number)) => self.tally.checks.count(check, number),
             _ => self.tally.fresh(),

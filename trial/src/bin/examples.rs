@@ -3,9 +3,9 @@
 //! Usage: `play-examples FILE...`; what the files hold is said in `cases.rs`.
 //!
 //! Beyond the written answers these hold for every step: bytes of the reply memory past the reply stay as they were,
-//! a refusal leaves the whole memory as it was, an answered call changes the caller's part alone, a refused cycle answers
-//! zeros, and a merged call comes to the same as the library's own write and fetch in turn, reply and memory included. And
-//! every response that the station gave, by a fetch or a merged call, passes the checker for its request.
+//! a refusal leaves the whole memory as it was, and so does a list, an answered call changes the caller's part alone, a
+//! refused cycle answers zeros, and a merged call comes to the same as the library's own write and fetch in turn, reply and
+//! memory included. And every response that the station gave, by a fetch or a merged call, passes the checker for its request.
 
 #![forbid(unsafe_code)]
 
@@ -81,6 +81,15 @@ impl Bench {
                 self.untouched(&before, number, *farm)?;
                 self.same_in_turn(before, step)?;
                 self.own_response(step)
+            }
+            Step::Versions { farm, wanted } => {
+                compare(wanted, &face::versions(&self.memory[..self.lent], *farm))?;
+                self.same(&before, 0..self.memory.len())
+            }
+            Step::GoBack { farm, version, wanted } => {
+                let returned = face::go_back(&mut self.memory[..self.lent], *farm, *version);
+                compare(wanted, &returned)?;
+                self.untouched(&before, returned.number, *farm)
             }
             Step::Check { request, response, number } => compare(number, &face::check(request, response)),
             Step::Fresh { number } => self.fresh(&before, *number),

@@ -7,7 +7,7 @@ use std::io::{self, BufWriter, Write};
 use trial::journal::FRAME_ROOM;
 use trial::random::Random;
 use trial::sending::Sending;
-use trial::{blocks, words};
+use trial::{blocks, kept, words};
 use twin::{Station, AXES};
 
 fn main() -> io::Result<()> {
@@ -16,10 +16,10 @@ fn main() -> io::Result<()> {
     let mut station = Station::fresh();
     let mut out = BufWriter::new(io::stdout());
     for _ in 0..records {
-        if random.one_in(2) {
-            cycle(&mut random, &mut station, &mut out)?;
-        } else {
-            frame(&mut random, &mut station, &mut out)?;
+        match random.below(20) {
+            0..=9 => cycle(&mut random, &mut station, &mut out)?,
+            10 => go_back(&mut random, &mut station, &mut out)?,
+            _ => frame(&mut random, &mut station, &mut out)?,
         }
     }
     out.flush()
@@ -66,5 +66,16 @@ fn frame(random: &mut Random, station: &mut Station, out: &mut impl Write) -> io
     out.write_all(&[kind, farm, frame.len() as u8])?;
     out.write_all(&body)?;
     sending.twins(station, u32::from(farm), &frame, &mut [0; FRAME_ROOM]);
+    Ok(())
+}
+
+/// A record of kind 4, with a version that has room in one.
+fn go_back(random: &mut Random, station: &mut Station, out: &mut impl Write) -> io::Result<()> {
+    let index = random.below(AXES);
+    let farm = number(random, index);
+    let version = kept::version(random, &station.axes[index].versions).min(65535) as u16;
+    out.write_all(&[4, farm])?;
+    out.write_all(&version.to_be_bytes())?;
+    station.go_back(u32::from(farm), u32::from(version));
     Ok(())
 }

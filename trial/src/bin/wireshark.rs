@@ -165,6 +165,7 @@ impl Answer {
             9 => 0xB7,
             10 => 0xB8,
             11 => 0xB6,
+            15 => 0xA1,
             _ if reads => 0xA0,
             _ => 0xA1,
         };
@@ -258,6 +259,10 @@ impl Bench {
         let answers = match &record {
             Record::Cycle(axis, i) => {
                 self.twin.cycle((*axis).into(), i.flags, i.stw1, i.nsoll, i.nist, i.fault);
+                Vec::new()
+            }
+            Record::GoBack(farm, version) => {
+                self.twin.go_back((*farm).into(), (*version).into());
                 Vec::new()
             }
             Record::Frame(farm, sending, frame) => self.twins_answers(*farm, *sending, frame),

@@ -112,21 +112,21 @@ fn formats_that_each_type_takes() {
 
 #[test]
 fn both_sides_of_every_limit() {
-    assert_eq!(changed("10 01 75 31 00 03", "42 01 0B B8").0.p30001, [0, 0, 0, 3000]);
+    assert_eq!(changed("10 01 75 31 00 03", "42 01 0B B8").0.settings.p30001, [0, 0, 0, 3000]);
     assert_eq!(change_error("10 01 75 31 00 03", "42 01 0B B9"), 0x02);
-    assert_eq!(changed("10 01 27 7F 00 00", "42 01 00 01").0.p10111, 1);
+    assert_eq!(changed("10 01 27 7F 00 00", "42 01 00 01").0.settings.p10111, 1);
     assert_eq!(change_error("10 01 27 7F 00 00", "42 01 00 00"), 0x02);
-    assert_eq!(changed("10 01 27 7F 00 00", "42 01 EA 60").0.p10111, 60000);
+    assert_eq!(changed("10 01 27 7F 00 00", "42 01 EA 60").0.settings.p10111, 60000);
     assert_eq!(change_error("10 01 27 7F 00 00", "42 01 EA 61"), 0x02);
-    assert_eq!(changed("10 01 75 32 00 00", "42 01 40 00").0.p30002, 16384);
+    assert_eq!(changed("10 01 75 32 00 00", "42 01 40 00").0.settings.p30002, 16384);
     assert_eq!(change_error("10 01 75 32 00 00", "42 01 40 01"), 0x02);
-    assert_eq!(changed("10 01 75 33 00 00", "06 01 7F FF").0.p30003, 32767);
+    assert_eq!(changed("10 01 75 33 00 00", "06 01 7F FF").0.settings.p30003, 32767);
     assert_eq!(change_error("10 01 75 33 00 00", "06 01 80 00"), 0x02);
-    assert_eq!(changed("10 02 75 34 00 00", "43 02 FF FE 79 60 00 01 86 A0").0.p30004, [-100_000, 100_000]);
+    assert_eq!(changed("10 02 75 34 00 00", "43 02 FF FE 79 60 00 01 86 A0").0.settings.p30004, [-100_000, 100_000]);
     assert_eq!(change_error("10 01 75 34 00 00", "04 01 FF FE 79 5F"), 0x02);
     assert_eq!(change_error("10 01 75 34 00 00", "04 01 00 01 86 A1"), 0x02);
-    assert_eq!(changed("10 01 26 AC 00 00", "42 01 FF FF").0.p9900, 65535);
-    assert_eq!(changed("10 02 26 AD 00 06", "42 02 FF FF 00 01").0.p9901, [0, 0, 0, 0, 0, 0, 65535, 1]);
+    assert_eq!(changed("10 01 26 AC 00 00", "42 01 FF FF").0.settings.p9900, 65535);
+    assert_eq!(changed("10 02 26 AD 00 06", "42 02 FF FF 00 01").0.settings.p9901, [0, 0, 0, 0, 0, 0, 65535, 1]);
 }
 
 #[test]
@@ -137,7 +137,7 @@ fn stores_are_counted_not_differences() {
     let mut station = Station::fresh();
     let twice = [("10 01 26 AC 00 00", "42 01 00 05"), ("10 01 26 AC 00 00", "42 01 00 06")];
     assert_eq!(write_and_fetch(&mut station, 1, &change(1, 1, &twice)), (2, hex("01 02 01 02")));
-    assert_eq!(station.axes[0].p9900, 6);
+    assert_eq!(station.axes[0].settings.p9900, 6);
 }
 
 #[test]
@@ -157,7 +157,7 @@ fn a_failed_change_goes_on() {
     assert_eq!(stored, 1 + 2);
     assert_eq!(response, hex("11 82 10 04 40 00 44 01 00 02 44 01 00 00 40 00"));
     let part = &station.axes[15];
-    assert_eq!((part.p9900, part.p30001, part.p30004), (5, [0; 4], [1, -1]));
+    assert_eq!((part.settings.p9900, part.settings.p30001, part.settings.p30004), (5, [0; 4], [1, -1]));
 }
 
 #[test]

@@ -46,7 +46,7 @@ fn the_least_reply_covers_the_acknowledgement() {
     let (framed, reply) = send_merged(&mut station, 3, &write_frame(&change(9, 3, &parameters)));
     assert_eq!(framed, Framed { length: 8, stored: 3, number: 0 });
     assert_eq!(reply, hex("5E 00 2F 04 09 02 03 02"));
-    assert_eq!((station.axes[2].p9900, station.axes[2].p30001), (5, [0, 0, 1000, 3000]));
+    assert_eq!((station.axes[2].settings.p9900, station.axes[2].settings.p30001), (5, [0, 0, 1000, 3000]));
     assert_eq!(station.axes[2].waiting, None);
 }
 
@@ -87,7 +87,7 @@ fn number_1() {
 #[test]
 fn number_2() {
     let mut station = Station::fresh();
-    station.axes[0].p30002 = 16385;
+    station.axes[0].settings.p30002 = 16385;
     assert_merged_refused(&mut station, 1, &worked_write(), 2, "");
     assert_merged_refused(&mut station, 1, &hex("5E 00 2F F0"), 2, "");
     assert_eq!(send_merged(&mut station, 2, &ask(2)).0.number, 0, "only the own part is tested");

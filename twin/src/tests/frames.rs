@@ -6,7 +6,7 @@ fn the_worked_frames() {
     let mut station = Station::fresh();
     let (framed, reply) = send(&mut station, 1, &worked_write());
     assert_eq!((framed, reply), (Framed { length: 4, stored: 0, number: 0 }, hex("5F 00 2F 10")));
-    assert_eq!(station.axes[0].p30001, [0; 4], "mark 0 stays 0");
+    assert_eq!(station.axes[0].settings.p30001, [0; 4], "mark 0 stays 0");
     let (framed, reply) = send(&mut station, 1, &hex("5E 00 2F F0"));
     assert_eq!(framed, Framed { length: 12, stored: 0, number: 0 });
     assert_eq!(reply, hex("5E 00 2F 08 07 82 01 01 44 01 00 02"));
@@ -27,7 +27,7 @@ fn number_1() {
 #[test]
 fn number_2() {
     let mut station = Station::fresh();
-    station.axes[0].p30002 = 16385;
+    station.axes[0].settings.p30002 = 16385;
     assert_refused(&mut station, 1, &worked_write(), 2, "");
     assert_eq!(station.frame(1, &[], &mut []), Framed { length: 0, stored: 0, number: 2 });
     let block = request(1, 2, &["10 01 03 A2 00 00"]);
@@ -296,7 +296,7 @@ fn a_fill_byte_between_value_blocks() {
     assert!(station == Station::fresh(), "nor is what stands before it stored");
     let (stored, response) = write_and_fetch(&mut station, 1, &block("00"));
     assert_eq!((stored, response), (3, hex("01 82 01 03 40 00 44 01 00 01 40 00")));
-    assert_eq!((station.axes[0].p9900, station.axes[0].p30001), (5, [1000, 3000, 0, 0]));
+    assert_eq!((station.axes[0].settings.p9900, station.axes[0].settings.p30001), (5, [1000, 3000, 0, 0]));
 }
 
 #[test]
@@ -360,13 +360,13 @@ fn reads_of_every_parameter() {
     let part = &mut station.axes[4];
     part.fault_counter = 0x0102;
     part.situations[1] = [0x11, 0x12, 0x13, 0, 0, 0, 0, 0];
-    part.p9900 = 0xFFFE;
-    part.p9901 = [1, 2, 3, 4, 5, 6, 7, 8];
+    part.settings.p9900 = 0xFFFE;
+    part.settings.p9901 = [1, 2, 3, 4, 5, 6, 7, 8];
     part.last_word = 0x047F;
     part.last_setpoint = -2;
     part.actual = i16::MIN;
-    part.p30001 = [3000, 1, 2, 3];
-    part.p30004 = [-100_000, 100_000];
+    part.settings.p30001 = [3000, 1, 2, 3];
+    part.settings.p30004 = [-100_000, 100_000];
     let cases = [
         ("10 01 03 A2 00 00", "42 01 00 01"),
         ("10 00 03 B0 00 00", "42 01 01 02"),

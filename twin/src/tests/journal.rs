@@ -1,4 +1,6 @@
-use super::{change, cycle, frame, hex, merged, record, request, worked_journal, worked_write, write_frame, Broken};
+use super::{
+    back, change, cycle, frame, hex, merged, record, request, worked_journal, worked_write, write_frame, Broken,
+};
 use crate::replay;
 use std::io::{self, Read};
 
@@ -125,6 +127,64 @@ fn refused_merged_calls() {
     assert_eq!(run(&merged(1, &[0x5F; 244])), "e 1 0 DF80B200\n");
 }
 
+#[test]
+fn goings_back() {
+    let store = |value: &str| merged(16, &write_frame(&change(1, 16, &[("10 01 26 AC 00 00", value)])));
+    let read = merged(16, &write_frame(&request(1, 16, &["10 01 26 AC 00 00"])));
+    let journal = [
+        back(16, 1),
+        store("42 01 0005"),
+        store("42 01 0006"),
+        back(16, 1),
+        read.clone(),
+        back(16, 2),
+        read,
+        back(16, 0),
+        back(16, 5),
+        back(16, 0x0100),
+        back(1, 1),
+        back(0, 1),
+        back(17, 1),
+        back(255, 0xFFFF),
+    ]
+    .concat();
+    let expected = "\
+x 14
+e 16 1 5E002F0401021001
+e 16 1 5E002F0401021001
+g 16 18 3
+e 16 0 5E002F080101100142010005
+g 16 18 4
+e 16 0 5E002F080101100142010006
+x 14
+x 14
+x 14
+x 14
+x 1
+x 1
+x 1
+";
+    assert_eq!(run(&journal), expected);
+}
+
+#[test]
+fn numbers_used_up() {
+    let store = |value: &str| write_frame(&change(1, 1, &[("10 01 26 AC 00 00", value)]));
+    let journal = [
+        merged(1, &store("42 01 0005")).repeat(65535),
+        back(1, 65520),
+        back(1, 65519),
+        merged(1, &store("42 01 0005")),
+        frame(1, &store("42 01 0005")),
+        frame(1, &store("42 02 0005 0006")),
+        cycle(1, 0, 0x047E, 0, 0, 0),
+    ]
+    .concat();
+    let stored = "e 1 1 5E002F0401020101\n".repeat(65535);
+    let refused = "x 15\nx 14\ne 1 0 DF80A100\nf 1 0 DF80A100\nf 1 0 5F002F10\nc 1 S2 0331 0\n";
+    assert_eq!(run(&journal), stored + refused);
+}
+
 /// After the line of a good record, these bytes end the run.
 fn assert_bad(bytes: &[u8]) {
     let good = cycle(2, 0, 0, 0, 0, 0);
@@ -134,7 +194,7 @@ fn assert_bad(bytes: &[u8]) {
 #[test]
 fn other_kinds_end_the_run() {
     let (good, long) = (cycle(2, 0, 0, 0, 0, 0), frame(1, &worked_write()));
-    for kind in (0..=255).filter(|kind| !(1..=3).contains(kind)) {
+    for kind in (0..=255).filter(|kind| !(1..=4).contains(kind)) {
         assert_bad(&[&[kind], &good[1..], &good].concat());
         assert_bad(&[&[kind], &long[1..], &good].concat());
     }
@@ -151,6 +211,8 @@ fn cut_records_end_the_run() {
     assert_bad_wherever_cut(&cycle(2, 0, 0, 0, 0, 0));
     assert_bad_wherever_cut(&frame(1, &worked_write()));
     assert_bad_wherever_cut(&merged(1, &worked_write()));
+    assert_bad_wherever_cut(&back(1, 1));
+    assert_bad_wherever_cut(&back(17, 0));
 }
 
 #[test]

@@ -1,4 +1,4 @@
-//! Worked cases of document 01, of of document 02 and of the readings.
+//! Worked cases of document 01, of of document 02 and of the readings.
 
 mod addresses;
 mod blocks;
@@ -10,9 +10,10 @@ mod journal;
 mod parts;
 mod random;
 mod season;
+mod versions;
 mod whole;
 
-use crate::{Framed, Station};
+use crate::{Axis, Framed, Station};
 use std::io::{self, Read};
 
 /// A reply memory that shows which bytes were touched.
@@ -116,6 +117,16 @@ pub fn fetch(station: &mut Station, farm: u32) -> Vec<u8> {
     reply[4..].to_vec()
 }
 
+/// What every call that stores something leaves beside it: the settings as the newest version, of which 16 are kept.
+pub fn keep_version(part: &mut Axis) {
+    let Axis { settings, versions, .. } = part;
+    versions.kept.push_back(settings.clone());
+    while versions.kept.len() > 16 {
+        versions.kept.pop_front();
+        versions.dropped += 1;
+    }
+}
+
 /// The worked write frame of marks 1000 and 3001.
 pub fn worked_write() -> Vec<u8> {
     hex("5F 00 2F 10 07 02 01 01 10 02 75 31 00 00 42 02 03 E8 0B B9")
@@ -146,6 +157,11 @@ pub fn frame(farm: u8, frame: &[u8]) -> Vec<u8> {
 /// A record of kind 3.
 pub fn merged(farm: u8, frame: &[u8]) -> Vec<u8> {
     record(3, farm, frame)
+}
+
+/// A record of kind 4.
+pub fn back(farm: u8, version: u16) -> Vec<u8> {
+    [&[4, farm][..], &version.to_be_bytes()].concat()
 }
 
 /// The worked journal of document 01.

@@ -1,5 +1,5 @@
 use super::hex;
-use crate::{well_formed, Axis, State, Waiting, BLOCK_MAX};
+use crate::{well_formed, Axis, Settings, State, Versions, Waiting, BLOCK_MAX};
 
 /// Whether a fresh part with this change is well-formed for axis 1.
 fn after(change: impl FnOnce(&mut Axis)) -> bool {
@@ -30,20 +30,20 @@ fn fixed_parameters() {
 
 #[test]
 fn limits() {
-    assert!(after(|part| part.p10111 = 1));
-    assert!(!after(|part| part.p10111 = 0));
-    assert!(after(|part| part.p10111 = 60000));
-    assert!(!after(|part| part.p10111 = 60001));
-    assert!(after(|part| part.p30001 = [3000; 4]));
-    assert!((0..4).all(|i| !after(|part| part.p30001[i] = 3001)));
-    assert!(after(|part| part.p30002 = 16384));
-    assert!(!after(|part| part.p30002 = 16385));
-    assert!(after(|part| part.p30003 = 32767));
-    assert!(!after(|part| part.p30003 = 32768));
-    assert!(after(|part| part.p30004 = [-100_000, 100_000]));
-    assert!((0..2).all(|i| !after(|part| part.p30004[i] = 100_001)));
-    assert!((0..2).all(|i| !after(|part| part.p30004[i] = -100_001)));
-    assert!((0..2).all(|i| !after(|part| part.p30004[i] = i32::MIN)));
+    assert!(after(|part| part.settings.p10111 = 1));
+    assert!(!after(|part| part.settings.p10111 = 0));
+    assert!(after(|part| part.settings.p10111 = 60000));
+    assert!(!after(|part| part.settings.p10111 = 60001));
+    assert!(after(|part| part.settings.p30001 = [3000; 4]));
+    assert!((0..4).all(|i| !after(|part| part.settings.p30001[i] = 3001)));
+    assert!(after(|part| part.settings.p30002 = 16384));
+    assert!(!after(|part| part.settings.p30002 = 16385));
+    assert!(after(|part| part.settings.p30003 = 32767));
+    assert!(!after(|part| part.settings.p30003 = 32768));
+    assert!(after(|part| part.settings.p30004 = [-100_000, 100_000]));
+    assert!((0..2).all(|i| !after(|part| part.settings.p30004[i] = 100_001)));
+    assert!((0..2).all(|i| !after(|part| part.settings.p30004[i] = -100_001)));
+    assert!((0..2).all(|i| !after(|part| part.settings.p30004[i] = i32::MIN)));
 }
 
 #[test]
@@ -60,6 +60,16 @@ fn situations() {
 }
 
 #[test]
+fn versions() {
+    let kept = |settings: Settings| Versions { dropped: 0, kept: [settings].into() };
+    assert!(after(|part| part.versions = kept(Settings::fresh())));
+    assert!(after(|part| part.versions = Versions { dropped: 65519, kept: vec![Settings::fresh(); 16].into() }));
+    assert!(after(|part| part.versions = kept(Settings { p10111: 60000, p30001: [3000; 4], ..Settings::fresh() })));
+    assert!(!after(|part| part.versions = kept(Settings { p10111: 60001, ..Settings::fresh() })));
+    assert!(!after(|part| part.versions = kept(Settings { p30001: [0, 0, 0, 3001], ..Settings::fresh() })));
+}
+
+#[test]
 fn other_fields_may_hold_anything() {
     assert!(after(|part| {
         part.state = State::S52;
@@ -69,8 +79,8 @@ fn other_fields_may_hold_anything() {
         part.status = 0xFFFF;
         part.actual = i16::MIN;
         part.fault_counter = 0xFFFF;
-        part.p9900 = 0xFFFF;
-        part.p9901 = [0xFFFF; 8];
+        part.settings.p9900 = 0xFFFF;
+        part.settings.p9901 = [0xFFFF; 8];
     }));
 }
 

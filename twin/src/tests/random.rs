@@ -1,12 +1,12 @@
 //! Random runs: the station stays well-formed, refusals change nothing, other parts are untouched, accepted blocks are of
 //! even length; every address of a change is stored whole or not at all; the merged call is the two calls in turn; the
-//! season report is what the replay's lines tell.
+//! versions are the last 16 of all that were taken; the season report is what the replay's lines tell.
 
-use super::{cycle, hex, record, write_and_fetch, UNTOUCHED};
+use super::{back, cycle, hex, keep_version, record, send_merged, write_and_fetch, write_frame, UNTOUCHED};
 use crate::record::FRAME_MAX;
 use crate::{
-    parse_request, parse_response, replay, report, well_formed, Axis, Counts, Framed, Item, ResponseKind, State,
-    Station, Totals, Values, AXES, COUNTS,
+    parse_request, parse_response, replay, report, well_formed, Axis, Counts, Framed, Item, Listed, ResponseKind,
+    Returned, Settings, State, Station, Totals, Values, AXES, COUNTS,
 };
 
 /// A small generator of its own (xorshift64*).
@@ -154,8 +154,8 @@ impl Elements {
     fn store(&self, part: &mut Axis) {
         for (element, value) in (self.first..).zip(&self.values) {
             match self.pnu {
-                30001 => part.p30001[element] = *value as u16,
-                _ => part.p30004[element] = *value,
+                30001 => part.settings.p30001[element] = *value as u16,
+                _ => part.settings.p30004[element] = *value,
             }
         }
     }
@@ -186,6 +186,9 @@ fn random_changes() {
         let block: Vec<u8> = [1, 2, 1, count].into_iter().chain(addresses).chain(values).collect();
         let mut expected = station.clone();
         let answer = stored_whole(&mut expected.axes[0], &sent);
+        if answer.0 > 0 {
+            keep_version(&mut expected.axes[0]);
+        }
         assert_eq!(write_and_fetch(&mut station, 1, &block), answer, "{block:02X?}");
         assert!(station == expected, "{block:02X?}");
         sent.iter().for_each(|elements| seen[usize::from(elements.inside)] += 1);
@@ -255,6 +258,43 @@ fn random_exchanges() {
     assert_eq!((seen[9], seen[12]), (0, 0));
 }
 
+/// What a going back answers where all versions ever taken are these.
+fn gone_back(taken: &[Settings], version: u32) -> Returned {
+    let last = taken.len() as u32;
+    let kept = (1.max(last.saturating_sub(15))..=last).contains(&version);
+    match kept {
+        true => Returned { stored: 18, version: last as u16 + 1, number: 0 },
+        false => Returned { stored: 0, version: 0, number: 14 },
+    }
+}
+
+#[test]
+fn random_versions() {
+    let mut random = Random(0x07E2_5104_50FA_5E77);
+    let mut station = Station::fresh();
+    let mut taken: Vec<Settings> = Vec::new();
+    let mut seen = [0u32; 15];
+    for _ in 0..20_000 {
+        if random.one_in(2) {
+            let block = random_block(&mut random, 1);
+            let stored = send_merged(&mut station, 1, &write_frame(&block[..block.len().min(240)])).0.stored;
+            taken.extend((stored > 0).then(|| station.axes[0].settings.clone()));
+        } else {
+            let near = taken.len() as u64 + 2;
+            let version = near.saturating_sub(random.below(21)) as u32 + random.pick(&[0, 0, 0, 65536]);
+            let (expected, before) = (gone_back(&taken, version), station.axes[0].settings.clone());
+            assert_eq!(station.go_back(1, version), expected, "{version}");
+            seen[usize::from(expected.number)] += 1;
+            let settings = if expected.number == 0 { taken[version as usize - 1].clone() } else { before };
+            assert_eq!(station.axes[0].settings, settings, "{version}");
+            taken.extend((expected.number == 0).then_some(settings));
+        }
+        let kept = taken.len().min(16) as u16;
+        assert_eq!(station.versions(1), Listed { oldest: taken.len() as u16 - kept + 1, kept, number: 0 });
+    }
+    assert!(taken.len() > 5000 && seen[14] > 1000, "{} {seen:?}", taken.len());
+}
+
 /// A control word, and seldom a fault code.
 fn random_word(random: &mut Random) -> (u16, u16) {
     let word = random.pick(&[0x047E, 0x047F, 0x047F, 0x047F, 0x04FF, 0x0477, 0x047B]) ^ (1 << random.below(30)) as u16;
@@ -283,6 +323,9 @@ fn random_cycles() {
 
 fn random_record(random: &mut Random) -> Vec<u8> {
     let number = random.below(18) as u8;
+    if random.one_in(20) {
+        return back(number, random.below(300) as u16);
+    }
     if random.one_in(3) {
         let mut bytes = random_frame(random, number);
         bytes.truncate(FRAME_MAX);
@@ -321,6 +364,7 @@ fn told(lines: &str) -> Totals {
                 totals[owner][8] += u64::from(reply == "DF80B600");
                 totals[owner][9] += stored.parse::<u64>().unwrap();
             }
+            ["g", _, stored, _] => totals[owner][9] += stored.parse::<u64>().unwrap(),
             _ => {}
         }
     }

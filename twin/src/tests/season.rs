@@ -1,4 +1,4 @@
-use super::{change, cycle, frame, hex, merged, request, worked_journal, worked_write, write_frame, Broken};
+use super::{back, change, cycle, frame, hex, merged, request, worked_journal, worked_write, write_frame, Broken};
 use crate::season::report_from;
 use crate::{count, report, Counts, Journal, Next, Station, Totals, AXES, COUNTS};
 use std::io::Read;
@@ -82,14 +82,14 @@ fn a_bad_record_ends_with_the_totals_so_far() {
     let (denied, stored) = ([0, 0, 0, 0, 0, 0, 0, 0, 1, 0], [0, 0, 0, 0, 0, 0, 0, 0, 0, 1]);
     let so_far = totals(&[(1, [1, 1, 1, 1, 0, 0, 1, 0, 0, 0]), (2, denied), (3, stored)]);
     let past_the_frame = [frame(1, &[]), merged(1, &[])].map(|record| [&record[..246], &[1]].concat());
-    let cut =
-        [cycle(1, 0, 0, 0, 0, 0), frame(1, &[]), merged(1, &[])].map(|record| record[..record.len() - 1].to_vec());
+    let cut = [cycle(1, 0, 0, 0, 0, 0), frame(1, &[]), merged(1, &[]), back(3, 1)]
+        .map(|record| record[..record.len() - 1].to_vec());
     for bad in [vec![0]].into_iter().chain(past_the_frame).chain(cut) {
         assert_eq!(run(&bad), text(&NONE, "bad\n"), "{bad:02X?}");
         assert_eq!(run(&[&before[..], &bad].concat()), text(&so_far, "bad\n"), "{bad:02X?}");
     }
     let [cycle_body, frame_body] = [&after[1..11], &frame(1, &worked_write())[1..]];
-    for kind in [0, 4, 5, 255] {
+    for kind in [0, 5, 6, 255] {
         for body in [cycle_body, frame_body] {
             let journal = [&before[..], &[kind], body, &after].concat();
             assert_eq!(run(&journal), text(&so_far, "bad\n"), "kind {kind}, and nothing is read after it");
@@ -205,6 +205,15 @@ fn merged_calls_refused_by_a_waiting_response_count_nothing() {
     assert_counts(&journal, &[(3, [0, 0, 0, 0, 0, 0, 0, 0, 0, 8])]);
 }
 
+#[test]
+fn goings_back_count_what_they_store() {
+    let one = merged(3, &eight_elements(3));
+    let refused = [back(3, 0), back(3, 4), back(1, 1), back(0, 1), back(17, 1)].concat();
+    let journal = [&one[..], &back(3, 1), &back(3, 2), &refused].concat();
+    assert_counts(&journal, &[(3, [0, 0, 0, 0, 0, 0, 0, 0, 0, 8 + 2 * 18])]);
+    assert_counts(&[refused, one].concat(), &[(3, [0, 0, 0, 0, 0, 0, 0, 0, 0, 8])]);
+}
+
 /// A journal that leads to a record of farm 1, that record, and what it counts.
 fn steps() -> Vec<(Vec<u8>, Vec<u8>, Counts)> {
     let [s2, s3, s4] = TO_S4;
@@ -226,6 +235,8 @@ fn steps() -> Vec<(Vec<u8>, Vec<u8>, Counts)> {
         (vec![], frame(1, &eight_elements(1)), [0, 0, 0, 0, 0, 0, 0, 0, 0, 8]),
         (vec![], merged(1, &eight_elements(2)), [0, 0, 0, 0, 0, 0, 0, 0, 1, 0]),
         (merged(1, &worked_write()), merged(1, &eight_elements(1)), [0, 0, 0, 0, 0, 0, 0, 0, 0, 8]),
+        (merged(1, &eight_elements(1)), back(1, 1), [0, 0, 0, 0, 0, 0, 0, 0, 0, 18]),
+        (vec![], back(1, 1), [0; COUNTS]),
         (vec![], cycle(1, 4, s2, 0, 0, 0), [0; COUNTS]),
         (frame(1, &eight_elements(1)), frame(1, &eight_elements(1)), [0; COUNTS]),
         (frame(1, &eight_elements(1)), merged(1, &eight_elements(1)), [0; COUNTS]),

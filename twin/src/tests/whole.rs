@@ -1,6 +1,6 @@
 //! An address is stored whole or not at all: R-6 of document 02.
 
-use super::{change, hex, write_and_fetch};
+use super::{change, hex, keep_version, write_and_fetch};
 use crate::Station;
 
 /// Marks and offsets that stand before a change; none is the fresh one, so nothing can be cleared unseen.
@@ -30,8 +30,8 @@ fn offsets(first: u16, values: &[i32]) -> Sent {
 /// A station with these marks and offsets of axis 1.
 fn holding(marks: [u16; 4], offsets: [i32; 2]) -> Station {
     let mut station = Station::fresh();
-    station.axes[0].p30001 = marks;
-    station.axes[0].p30004 = offsets;
+    station.axes[0].settings.p30001 = marks;
+    station.axes[0].settings.p30004 = offsets;
     station
 }
 
@@ -42,8 +42,12 @@ fn assert_change(sent: &[Sent], stored: u16, response: &str, marks: [u16; 4], of
     let mut station = holding(MARKS, OFFSETS);
     let answer = write_and_fetch(&mut station, 1, &change(1, 1, &parameters));
     assert_eq!(answer, (stored, hex(response)), "{sent:?}");
-    assert_eq!((station.axes[0].p30001, station.axes[0].p30004), (marks, offsets), "{sent:?}");
-    assert!(station == holding(marks, offsets), "nothing else changes: {sent:?}");
+    assert_eq!((station.axes[0].settings.p30001, station.axes[0].settings.p30004), (marks, offsets), "{sent:?}");
+    let mut expected = holding(marks, offsets);
+    if stored > 0 {
+        keep_version(&mut expected.axes[0]);
+    }
+    assert!(station == expected, "nothing else changes: {sent:?}");
 }
 
 /// A change of this address alone stores nothing and answers 0x02.
