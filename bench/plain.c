@@ -1,6 +1,6 @@
-/* The station of document 01, with R-2 and R-3 of 02, in plain C on the same memory as the library, and the checker of R-4: a
- * yardstick for `./llinkhiro bench`, not a product. The face is that of llinkhiro.h under other names, so that one program can
- * hold both. */
+/* The station of document 01, with R-2, R-3, R-6 and R-7 of 02, in plain C on the same memory as the library, and the checker of
+ * R-4: a yardstick for `./llinkhiro bench`, not a product. The face is that of llinkhiro.h under other names, so that one program
+ * can hold both. */
 #include "llinkhiro.h"
 
 #include <stdbool.h>
@@ -10,19 +10,30 @@
 enum { AXES = 16, SITUATIONS = 4, CODES = 8, BLOCK = 240, HEADER = 4, ADDRESS = 6, PARAMETERS = 39, REPLY = HEADER + BLOCK };
 enum { S1 = 1, S2 = 2, S3 = 3, S4 = 4, S51 = 51, S52 = 52 };
 enum { READ = 0x5E, WRITE = 0x5F, SLOT = 0, INDEX = 47 };
+enum { KEPT = 16, SETTINGS = 18, LAST_NUMBER = 65535 };
 enum { REQUEST = 0x01, CHANGE = 0x02, FAILED = 0x80 };
 enum { SIZE_1 = 0x41, SIZE_2 = 0x42, SIZE_4 = 0x43, NOTHING = 0x40, ERROR = 0x44 };
 enum type { I16 = 3, I32 = 4, U8 = 5, U16 = 6 };
 
-/* Bytes alone, high byte first: no padding and any alignment. */
+/* The versions of the settings: of each element the numbers of all slots side by side, low byte first; version n stands in slot
+ * (n - 1) % KEPT. A slot not yet in use holds fresh settings. */
+struct versions {
+    uint8_t p9900[KEPT][2], p9901[8][KEPT][2], p10111[KEPT][2];
+    uint8_t p30001[4][KEPT][2], p30002[KEPT][2], p30003[KEPT][2], p30004[2][KEPT][4];
+    uint8_t last[2]; /* the last number used; 0 for none */
+};
+
+/* Bytes alone, but for the versions high byte first: no padding and any alignment. */
 struct part {
     uint8_t p930[2], p944[2], p947[SITUATIONS][CODES][2], p965[2], p9900[2], p9901[8][2];
     uint8_t p10100[2], p10101[2], p10102[2], p10103[2], p10111[2];
     uint8_t p30001[4][2], p30002[2], p30003[2], p30004[2][4];
     uint8_t state, effective[2], length, response[BLOCK];
+    struct versions versions;
 };
 
-_Static_assert(sizeof(struct part) == 362, "the library's layout");
+_Static_assert(sizeof(struct part) == 1004 && offsetof(struct part, versions) == 362, "the library's layout");
+_Static_assert(__BYTE_ORDER__ == __ORDER_LITTLE_ENDIAN__, "the versions are read and written as the processor's own numbers");
 
 static const uint8_t zeros[BLOCK];
 
@@ -40,6 +51,39 @@ static void put_word(uint8_t b[2], unsigned n)
 {
     b[0] = (uint8_t)(n >> 8);
     b[1] = (uint8_t)n;
+}
+
+static void put_double(uint8_t b[4], int32_t n)
+{
+    put_word(b, (uint32_t)n >> 16);
+    put_word(b + 2, (uint32_t)n);
+}
+
+/* Low byte first. */
+static uint16_t low_word(const uint8_t b[2])
+{
+    uint16_t n;
+
+    memcpy(&n, b, sizeof n);
+    return n;
+}
+
+static int32_t low_double(const uint8_t b[4])
+{
+    int32_t n;
+
+    memcpy(&n, b, sizeof n);
+    return n;
+}
+
+static void put_low_word(uint8_t b[2], unsigned n)
+{
+    memcpy(b, &(uint16_t){ (uint16_t)n }, 2);
+}
+
+static void put_low_double(uint8_t b[4], int32_t n)
+{
+    memcpy(b, &n, sizeof n);
 }
 
 static bool zero(const uint8_t *b, size_t len)
@@ -97,6 +141,87 @@ static const struct parameter *find(unsigned pnu)
         ROW(30004, I32, 2, true, -100000, 100000)
     }
     return NULL;
+}
+
+/* ---- Versions ------------------------------------------------------------------------------------------------ */
+
+/* Whether the settings of every slot lie inside their limits; any word is inside those of 9900 and 9901. No test ends it early,
+ * so that the compiler can take many slots at a time. */
+static bool versions_formed(const struct versions *v)
+{
+    uint16_t words = 0;
+    uint32_t doubles = 0;
+
+    for (unsigned slot = 0; slot < KEPT; slot++) {
+        words |= (uint16_t)(low_word(v->p10111[slot]) - 1) > 59999; /* 1 to 60000 */
+        words |= low_word(v->p30001[0][slot]) > 3000;
+        words |= low_word(v->p30001[1][slot]) > 3000;
+        words |= low_word(v->p30001[2][slot]) > 3000;
+        words |= low_word(v->p30001[3][slot]) > 3000;
+        words |= low_word(v->p30002[slot]) > 16384;
+        words |= low_word(v->p30003[slot]) > 32767;
+    }
+    for (unsigned slot = 0; slot < KEPT; slot++) {
+        doubles |= (uint32_t)low_double(v->p30004[0][slot]) + 100000 > 200000;
+        doubles |= (uint32_t)low_double(v->p30004[1][slot]) + 100000 > 200000;
+    }
+    return (words | doubles) == 0;
+}
+
+/* The settings into a slot. */
+static void keep(struct part *part, unsigned slot)
+{
+    struct versions *v = &part->versions;
+
+    put_low_word(v->p9900[slot], word(part->p9900));
+    for (unsigned i = 0; i < 8; i++)
+        put_low_word(v->p9901[i][slot], word(part->p9901[i]));
+    put_low_word(v->p10111[slot], word(part->p10111));
+    for (unsigned i = 0; i < 4; i++)
+        put_low_word(v->p30001[i][slot], word(part->p30001[i]));
+    put_low_word(v->p30002[slot], word(part->p30002));
+    put_low_word(v->p30003[slot], word(part->p30003));
+    for (unsigned i = 0; i < 2; i++)
+        put_low_double(v->p30004[i][slot], signed_double(part->p30004[i]));
+}
+
+/* The settings from a slot. */
+static void restore(struct part *part, unsigned slot)
+{
+    const struct versions *v = &part->versions;
+
+    put_word(part->p9900, low_word(v->p9900[slot]));
+    for (unsigned i = 0; i < 8; i++)
+        put_word(part->p9901[i], low_word(v->p9901[i][slot]));
+    put_word(part->p10111, low_word(v->p10111[slot]));
+    for (unsigned i = 0; i < 4; i++)
+        put_word(part->p30001[i], low_word(v->p30001[i][slot]));
+    put_word(part->p30002, low_word(v->p30002[slot]));
+    put_word(part->p30003, low_word(v->p30003[slot]));
+    for (unsigned i = 0; i < 2; i++)
+        put_double(part->p30004[i], low_double(v->p30004[i][slot]));
+}
+
+/* The settings as they are become the next version; its number. */
+static uint16_t take(struct part *part)
+{
+    unsigned last = low_word(part->versions.last);
+
+    keep(part, last % KEPT);
+    put_low_word(part->versions.last, last + 1);
+    return (uint16_t)(last + 1);
+}
+
+static struct llinkhiro_listed list(const struct part *part)
+{
+    unsigned last = low_word(part->versions.last), kept = last < KEPT ? last : KEPT;
+
+    return (struct llinkhiro_listed){ (uint16_t)(last - kept + 1), (uint16_t)kept, 0 };
+}
+
+static bool used_up(const struct part *part)
+{
+    return low_word(part->versions.last) == LAST_NUMBER;
 }
 
 /* ---- A part -------------------------------------------------------------------------------------------------- */
@@ -186,7 +311,7 @@ static bool well_formed(const struct part *part, unsigned axis)
     for (unsigned i = 0; i < SITUATIONS; i++)
         if (!situation_formed(part->p947[i]))
             return false;
-    return limits_formed(part) && waiting_formed(part, axis);
+    return limits_formed(part) && versions_formed(&part->versions) && waiting_formed(part, axis);
 }
 
 /* Refusals 1 and 2; the caller's part where there is none. */
@@ -219,6 +344,8 @@ uint8_t plain_fresh(uint8_t *station, size_t station_len)
         put_word(part->p30002, 164);
         put_word(part->p30003, 16384);
         part->state = S1;
+        for (unsigned slot = 0; slot < KEPT; slot++)
+            keep(part, slot);
     }
     return 0;
 }
@@ -387,26 +514,39 @@ static bool inside(const struct parameter *p, const uint8_t *value, unsigned n)
     return true;
 }
 
+/* The rules for an address of a change and its values: the error, or -1 and the place to store them in. */
+static inline int allow(const uint8_t *address, const uint8_t *values, struct place *to)
+{
+    int error = locate(address, to);
+
+    if (error >= 0)
+        return error;
+    if (!to->parameter->writable)
+        return 0x01;
+    if (values[0] != to->parameter->type && values[0] != to->parameter->size_code)
+        return 0x05;
+    if (values[1] != to->elements)
+        return 0x18;
+    return inside(to->parameter, values + 2, to->elements) ? -1 : 0x02;
+}
+
 /* One address of a change: -1, its elements stored and counted; or the error, and none is. */
 static int change(struct part *part, const uint8_t *address, const uint8_t *values, uint16_t *stored)
 {
     struct place to = { NULL, 0, 0 };
-    int error = locate(address, &to);
-    const struct parameter *p = to.parameter;
+    int error = allow(address, values, &to);
 
     if (error >= 0)
         return error;
-    if (!p->writable)
-        return 0x01;
-    if (values[0] != p->type && values[0] != p->size_code)
-        return 0x05;
-    if (values[1] != to.elements)
-        return 0x18;
-    if (!inside(p, values + 2, to.elements))
-        return 0x02;
-    memcpy((uint8_t *)part + to.at, values + 2, to.elements * p->size);
+    memcpy((uint8_t *)part + to.at, values + 2, to.elements * to.parameter->size);
     *stored += (uint16_t)to.elements;
     return -1;
+}
+
+/* The values after these. */
+static const uint8_t *next_values(const uint8_t *values)
+{
+    return values + 2 + filled(format_size(values[0]) * values[1]);
 }
 
 /* Adds the error's block; with it the response is one of failure. */
@@ -450,7 +590,7 @@ static uint8_t *change_all(struct part *part, const uint8_t *block, uint8_t *to,
     for (unsigned left = block[3]; left > 0; left--, address += ADDRESS) {
         int error = change(part, address, values, stored);
 
-        values += 2 + filled(format_size(values[0]) * values[1]);
+        values = next_values(values);
         if (error >= 0) {
             to = add_error(part, to, error);
             continue;
@@ -464,9 +604,24 @@ static uint8_t *change_all(struct part *part, const uint8_t *block, uint8_t *to,
     return start;
 }
 
+/* Whether a readable block would store an element. What an address may store hangs on no other and on nothing stored. */
+static bool would_store(const uint8_t *block)
+{
+    const uint8_t *address = block + HEADER, *values = address + (size_t)block[3] * ADDRESS;
+
+    for (unsigned left = block[1] == CHANGE ? block[3] : 0; left > 0; left--, address += ADDRESS) {
+        struct place to;
+
+        if (allow(address, values, &to) < 0)
+            return true;
+        values = next_values(values);
+    }
+    return false;
+}
+
 /* ---- Frames -------------------------------------------------------------------------------------------------- */
 
-/* Refusals 5 to 11. */
+/* Refusals 5 to 11, and 15. */
 static unsigned refusal(const struct part *part, unsigned farm, const uint8_t *frame, size_t frame_len)
 {
     bool read = frame[0] == READ;
@@ -484,7 +639,9 @@ static unsigned refusal(const struct part *part, unsigned farm, const uint8_t *f
         return len < part->length ? 9 : 0;
     if (!request_readable(frame + HEADER, len))
         return 10;
-    return frame[HEADER + 2] != farm ? 11 : 0;
+    if (frame[HEADER + 2] != farm)
+        return 11;
+    return used_up(part) && would_store(frame + HEADER) ? 15 : 0;
 }
 
 static struct llinkhiro_framed fetch(struct part *part, uint8_t *reply)
@@ -507,6 +664,8 @@ static struct llinkhiro_framed work(struct part *part, const uint8_t *frame, uin
     memcpy(part->response, block, HEADER);
     to = block[1] == REQUEST ? read_all(part, block, to) : change_all(part, block, to, &stored);
     part->length = (uint8_t)(to - part->response);
+    if (stored > 0)
+        take(part);
     memcpy(reply, frame, HEADER);
     return (struct llinkhiro_framed){ HEADER, stored, 0 };
 }
@@ -514,7 +673,9 @@ static struct llinkhiro_framed work(struct part *part, const uint8_t *frame, uin
 struct llinkhiro_framed plain_frame(uint8_t *station, size_t station_len, uint32_t farm, const uint8_t *frame,
                                     size_t frame_len, uint8_t *reply, size_t reply_len)
 {
-    static const uint8_t codes[] = { [5] = 0xB2, [6] = 0xB0, [7] = 0xB1, [8] = 0xB5, [9] = 0xB7, [10] = 0xB8, [11] = 0xB6 };
+    static const uint8_t codes[] = {
+        [5] = 0xB2, [6] = 0xB0, [7] = 0xB1, [8] = 0xB5, [9] = 0xB7, [10] = 0xB8, [11] = 0xB6, [15] = 0xA1
+    };
     struct part *part;
     unsigned number = own_part(station, station_len, farm, &part);
 
@@ -544,6 +705,40 @@ struct llinkhiro_framed plain_exchange(uint8_t *station, size_t station_len, uin
     struct llinkhiro_framed fetched = fetch((struct part *)station + (farm - 1), reply);
     fetched.stored = written.stored;
     return fetched;
+}
+
+/* ---- Old settings -------------------------------------------------------------------------------------------- */
+
+struct llinkhiro_listed plain_versions(const uint8_t *station, size_t station_len, uint32_t farm)
+{
+    struct part *part;
+    unsigned number = own_part((uint8_t *)station, station_len, farm, &part); /* which writes nothing */
+
+    return number != 0 ? (struct llinkhiro_listed){ 0, 0, (uint8_t)number } : list(part);
+}
+
+/* Refusals 14 and 15 of going back. A version that is not kept is never one of those from the oldest on. */
+static unsigned version_refusal(const struct part *part, uint32_t version)
+{
+    struct llinkhiro_listed kept = list(part);
+
+    if (version < kept.oldest || version - kept.oldest >= kept.kept)
+        return 14;
+    return used_up(part) ? 15 : 0;
+}
+
+/* The version is restored before the new one is taken, which may stand in its slot. */
+struct llinkhiro_returned plain_go_back(uint8_t *station, size_t station_len, uint32_t farm, uint32_t version)
+{
+    struct part *part;
+    unsigned number = own_part(station, station_len, farm, &part);
+
+    if (number == 0)
+        number = version_refusal(part, version);
+    if (number != 0)
+        return (struct llinkhiro_returned){ 0, 0, (uint8_t)number };
+    restore(part, (version - 1) % KEPT);
+    return (struct llinkhiro_returned){ SETTINGS, take(part), 0 };
 }
 
 /* ---- The checker --------------------------------------------------------------------------------------------- */

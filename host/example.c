@@ -1,8 +1,9 @@
 /* A host of the station, to start from: it lends the memory, runs four control cycles on axis 1, lets farm 1 write two
- * level marks, lets farm 2 try farm 1's frame, and lets farm 1 mend its marks. Every answer carries a number, 0 for done;
- * a host looks at it before anything else. Done is not yet stored: an 82 in the response says which addresses failed.
+ * level marks, lets farm 2 try farm 1's frame, lets farm 1 mend its marks, lower them and go back to what they were. Every
+ * answer carries a number, 0 for done; a host looks at it before anything else. Done is not yet stored: an 82 in the
+ * response says which addresses failed.
  * Prints document 01's listing ("Journal program") as R-6 of document 02 has it, with a write and its fetch as one line,
- * and then a line for the mended marks. */
+ * and then lines for the marks after it: mended, lowered, the versions that are kept, and the going back. */
 #include "llinkhiro.h"
 
 #include <inttypes.h>
@@ -31,6 +32,12 @@ static const uint8_t write_marks[] = {
 static const uint8_t mended_marks[] = {
     0x5F, 0x00, 0x2F, 0x10, 0x08, 0x02, 0x01, 0x01, 0x10, 0x02,
     0x75, 0x31, 0x00, 0x00, 0x42, 0x02, 0x03, 0xE8, 0x0B, 0xB8,
+};
+
+/* With reference 9 and both marks 500 mm, for the dry season. */
+static const uint8_t lowered_marks[] = {
+    0x5F, 0x00, 0x2F, 0x10, 0x09, 0x02, 0x01, 0x01, 0x10, 0x02,
+    0x75, 0x31, 0x00, 0x00, 0x42, 0x02, 0x01, 0xF4, 0x01, 0xF4,
 };
 
 static void stop_unless(uint8_t wanted, uint8_t number, const char *call)
@@ -64,6 +71,27 @@ static void exchange(uint32_t farm, const uint8_t *bytes, size_t len, uint8_t du
     printf("%s\n", got.length == 0 ? "-" : "");
 }
 
+/* The numbers of the farm's old settings that are kept. */
+static void list(uint32_t farm)
+{
+    struct llinkhiro_listed got = llinkhiro_versions(station, station_len, farm);
+
+    stop_unless(DONE, got.number, "versions");
+    printf("versions of farm %" PRIu32 ":", farm);
+    for (unsigned i = 0; i < got.kept; i++)
+        printf(" %u", got.oldest + i);
+    printf("\n");
+}
+
+/* Settings as they were: all of them are stored again, and are the newest version too. */
+static void go_back(uint32_t farm, uint32_t version)
+{
+    struct llinkhiro_returned got = llinkhiro_go_back(station, station_len, farm, version);
+
+    stop_unless(DONE, got.number, "go back");
+    printf("g %" PRIu32 " %u %u\n", farm, (unsigned)got.stored, (unsigned)got.version);
+}
+
 int main(void)
 {
     station_len = llinkhiro_size();
@@ -81,7 +109,11 @@ int main(void)
 
     exchange(1, write_marks, sizeof write_marks, DONE); /* no mark is stored: 82, value out of limits */
     exchange(2, write_marks, sizeof write_marks, AXIS_NOT_THE_CALLERS);
-    exchange(1, mended_marks, sizeof mended_marks, DONE); /* both are stored: 02 */
+    exchange(1, mended_marks, sizeof mended_marks, DONE); /* both are stored: 02; this is version 1 */
+
+    exchange(1, lowered_marks, sizeof lowered_marks, DONE); /* version 2 */
+    list(1);
+    go_back(1, 1); /* the mended marks again, as version 3 */
 
     free(station);
     return EXIT_SUCCESS;

@@ -1,5 +1,6 @@
 /* A test of the station's C face against documents 01 and 02. Every expected byte was worked out from them by hand, but
- * for the replies of merged calls beside an accepted write: these come from the write and the fetch themselves.
+ * for the replies of merged calls beside an accepted write, which come from the write and the fetch themselves, and for
+ * long runs of versions, which are kept here by R-7's rule, from a table of the settings and their limits.
  *
  * Each call is made on memories of its own with guard bytes of a known pattern on both sides, and everything is checked
  * after it: the answer, the reply, the reply memory past it, the frame, the station and all guards. A refused call must
@@ -486,6 +487,31 @@ static void fresh_station(void)
     station_of(llinkhiro_size());
 }
 
+static void list(const char *name, uint32_t farm, uint8_t number, uint16_t oldest, uint16_t kept)
+{
+    uint8_t *before = copy_of(&station);
+    struct llinkhiro_listed got = llinkhiro_versions(start(&station), station.len, farm);
+
+    check_number(name, "number of the list", got.number, number);
+    check_number(name, "oldest", got.oldest, oldest);
+    check_number(name, "kept", got.kept, kept);
+    check_station(name, before, 0);
+    free(before);
+}
+
+/* A going back and the version that it takes; 0 where it is refused. */
+static void go_back(const char *name, uint32_t farm, uint32_t version, uint8_t number, uint16_t taken)
+{
+    uint8_t *before = copy_of(&station);
+    struct llinkhiro_returned got = llinkhiro_go_back(start(&station), station.len, farm, version);
+
+    check_number(name, "number of the going back", got.number, number);
+    check_number(name, "elements stored", got.stored, number == 0 ? 18 : 0);
+    check_number(name, "version taken", got.version, taken);
+    check_station(name, before, number == 0 ? farm : 0);
+    free(before);
+}
+
 /* ---- Groups of checks ---------------------------------------------------------------------------------------- */
 
 /* The structs as a host's compiler lays them out are those that the library answers in. */
@@ -498,6 +524,12 @@ static void layout(void)
     check_number("framed", "size", sizeof(struct llinkhiro_framed), 6);
     check_number("framed", "stored", offsetof(struct llinkhiro_framed, stored), 2);
     check_number("framed", "number", offsetof(struct llinkhiro_framed, number), 4);
+    check_number("listed", "size", sizeof(struct llinkhiro_listed), 6);
+    check_number("listed", "kept", offsetof(struct llinkhiro_listed, kept), 2);
+    check_number("listed", "number", offsetof(struct llinkhiro_listed, number), 4);
+    check_number("returned", "size", sizeof(struct llinkhiro_returned), 6);
+    check_number("returned", "version", offsetof(struct llinkhiro_returned, version), 2);
+    check_number("returned", "number", offsetof(struct llinkhiro_returned, number), 4);
 }
 
 static void fresh_refused(size_t len)
@@ -582,6 +614,8 @@ static void farms_and_axes(void)
         frame(named("frame of farm %" PRIu32, none[i]), none[i], read_930, 1, 0, "");
         cycle(named("cycle of axis %" PRIu32, none[i]),
               (struct turn){ .axis = none[i], .stw1 = 0x047E, .number = 1 });
+        list(named("list of farm %" PRIu32, none[i]), none[i], 1, 0, 0);
+        go_back(named("going back of farm %" PRIu32, none[i]), none[i], 1, 1, 0);
     }
 }
 
@@ -638,10 +672,20 @@ static const char *listed(unsigned set)
     static char list[40];
 
     list[0] = '\0';
-    for (unsigned number = 1; number <= 12; number++)
+    for (unsigned number = 1; number <= 15; number++)
         if (has(set, number))
             snprintf(list + strlen(list), sizeof list - strlen(list), " %u", number);
     return list;
+}
+
+/* Where the versions of a farm stand in its part is the library's own; so is where the last number used stands in them.
+ * Each setting has a column of all slots, low byte first; the tests that alter them and compare every byte say so. */
+enum { KEPT = 16, SETTINGS = 18, VERSIONS_AT = 362, LAST_AT = VERSIONS_AT + 640, VERSIONS_END = LAST_AT + 2 };
+
+/* As after 65535 versions, but for what stands in those that are kept. */
+static void use_up(uint32_t farm)
+{
+    memset(part(farm) + LAST_AT, 0xFF, 2);
 }
 
 /* The two ways to deserve number 2: a station one byte short, or the caller's part all FF, its marks over the limit. */
@@ -685,10 +729,11 @@ static void cycle_order(void)
         }
 }
 
-/* A frame of farm 1 made to deserve each number of the set and no other; set 0 is accepted. */
+/* A frame of farm 1 made to deserve each number of the set and no other; set 0 is accepted. Where the numbers of the
+ * versions are used up, 15 is deserved by a change. */
 static struct bytes frame_deserving(unsigned set, bool write)
 {
-    struct bytes made = hex(write ? read_930 : has(set, 9) ? "5E 00 2F 07" : fetch);
+    struct bytes made = hex(has(set, 15) ? store_marks : write ? read_930 : has(set, 9) ? "5E 00 2F 07" : fetch);
 
     if (has(set, 4))
         made.at[0] = 0x5D;
@@ -705,10 +750,10 @@ static struct bytes frame_deserving(unsigned set, bool write)
     return made;
 }
 
-/* The reply of document 01's table to a refused frame. */
+/* The reply of document 01's table, or of R-7, to a refused frame. */
 static struct bytes refusal_reply(uint8_t number, bool write)
 {
-    static const char *const code[12] = { "", "", "", "", "", "B2", "B0", "B1", "B5", "B7", "B8", "B6" };
+    static const char *const code[16] = { [5] = "B2", "B0", "B1", "B5", "B7", "B8", "B6", [15] = "A1" };
     struct bytes reply = { 0, { 0 } };
 
     if (number >= 5) {
@@ -724,6 +769,8 @@ static void frame_spoiled(unsigned set, bool write, enum spoiling how)
     fresh_station();
     if (write == has(set, 8)) /* a response waits */
         frame("response left waiting", 1, read_930, 0, 0, "5F 00 2F 0A");
+    if (has(set, 15))
+        use_up(1);
     if (has(set, 2))
         spoil(how, 1);
     send(named("%s that deserves%s%s", write ? "write" : "read", listed(set), spoiled(set, how)),
@@ -739,12 +786,15 @@ static void frame_answered_smallest(unsigned set, bool write)
 }
 
 /* A frame that deserves several numbers is answered the smallest, for every set of numbers that can meet: only a read
- * can deserve 9, and not beside 8; only a write can deserve 10 and 11. */
+ * can deserve 9, and not beside 8; only a write can deserve 10, 11 and 15. */
 static void frame_order(void)
 {
+    frame_answered_smallest(1 << 15, true);
     for (unsigned set = 1 << 1; set < 1 << 12; set += 1 << 1) {
-        if (!has(set, 9))
+        if (!has(set, 9)) {
             frame_answered_smallest(set, true);
+            frame_answered_smallest(set | 1 << 15, true);
+        }
         if (!has(set, 10) && !has(set, 11) && !(has(set, 8) && has(set, 9)))
             frame_answered_smallest(set, false);
     }
@@ -900,6 +950,8 @@ static void work_refused(size_t len)
     frame(named("2: read on %zu bytes of station", len), 16, fetch, 2, 0, "");
     frame(named("2: no frame on %zu bytes of station", len), 1, "", 2, 0, "");
     cycle(named("2: cycle on %zu bytes of station", len), (struct turn){ .axis = 1, .stw1 = 0x047E, .number = 2 });
+    list(named("2: list on %zu bytes of station", len), 1, 2, 0, 0);
+    go_back(named("2: going back on %zu bytes of station", len), 16, 1, 2, 0);
 }
 
 /* Number 2 by the station's size. */
@@ -1081,10 +1133,13 @@ static void overwritten(uint32_t axis, uint8_t with)
          (struct sending){ axis, hex(fetch), 0, REPLY, 2, 0, hex("") });
     cycle(named("2: axis %" PRIu32 " with its part all %02X", axis, (unsigned)with),
           (struct turn){ .axis = axis, .stw1 = 0x047E, .number = 2 });
+    list(named("2: list of farm %" PRIu32 " with its part all %02X", axis, (unsigned)with), axis, 2, 0, 0);
+    go_back(named("2: going back of farm %" PRIu32 " with its part all %02X", axis, (unsigned)with), axis, 65535, 2, 0);
     send(named("farm %" PRIu32 " beside a part all %02X", neighbour, (unsigned)with),
          (struct sending){ neighbour, theirs, 0, REPLY, 0, 0, hex("5F 00 2F 0A") });
     cycle(named("axis %" PRIu32 " beside a part all %02X", neighbour, (unsigned)with),
           (struct turn){ .axis = neighbour, .stw1 = 0x047E, .state = 2, .status = 0x0331 });
+    list(named("list of farm %" PRIu32 " beside a part all %02X", neighbour, (unsigned)with), neighbour, 0, 1, 0);
 }
 
 /* Number 2 by the caller's own part. All FF has marks over their limit, all 00 has 10111 under its own. */
@@ -1564,6 +1619,664 @@ static void faults(void)
           "5E 00 2F 14  0E 01 01 04  42 01 04 FE  42 01 FF FE  42 01 03 31  42 01 FF FD");
 }
 
+/* The settings: the parameters that can be written, with the places of their elements in a part. */
+static const struct setting {
+    uint16_t pnu;
+    uint8_t elements, size;
+    size_t at;
+    int32_t low, high, fresh;
+} settings[] = {
+    { 9900, 1, 2, 70, 0, 65535, 0 },
+    { 9901, 8, 2, 72, 0, 65535, 0 },
+    { 10111, 1, 2, 96, 1, 60000, 1500 },
+    { 30001, 4, 2, 98, 0, 3000, 0 },
+    { 30002, 1, 2, 106, 0, 16384, 164 },
+    { 30003, 1, 2, 108, 0, 32767, 16384 },
+    { 30004, 2, 4, 110, -100000, 100000, 0 },
+};
+
+enum { WRITABLE = sizeof settings / sizeof settings[0] };
+
+/* Numbers of 2 or 4 bytes: high byte first in frames and in what is settled now, low byte first in versions. */
+static void put_high(uint8_t *to, int32_t number, unsigned size)
+{
+    for (unsigned i = 0; i < size; i++)
+        to[i] = (uint8_t)((uint32_t)number >> 8 * (size - 1 - i));
+}
+
+static void put_low(uint8_t *to, int32_t number, unsigned size)
+{
+    for (unsigned i = 0; i < size; i++)
+        to[i] = (uint8_t)((uint32_t)number >> 8 * i);
+}
+
+static int32_t low_number(const uint8_t *from, unsigned size)
+{
+    uint32_t number = 0;
+
+    for (unsigned i = 0; i < size; i++)
+        number |= (uint32_t)from[i] << 8 * i;
+    return (int32_t)number;
+}
+
+struct values { /* of all settings, in the order of the table */
+    int32_t at[SETTINGS];
+};
+
+static struct values fresh_values(void)
+{
+    struct values fresh;
+    int32_t *to = fresh.at;
+
+    for (size_t i = 0; i < WRITABLE; i++)
+        for (unsigned element = 0; element < settings[i].elements; element++)
+            *to++ = settings[i].fresh;
+    return fresh;
+}
+
+/* Values that tell the nth change and each element apart: every fourth time all low limits, or all high ones. */
+static struct values nth_values(uint32_t n)
+{
+    struct values nth;
+    int32_t *to = nth.at;
+
+    for (size_t i = 0; i < WRITABLE; i++)
+        for (unsigned element = 0; element < settings[i].elements; element++) {
+            int64_t range = (int64_t)settings[i].high - settings[i].low + 1;
+            int64_t apart = (INT64_C(7919) * n + 271 * element) % range;
+
+            *to++ = n % 4 == 1 ? settings[i].low : n % 4 == 2 ? settings[i].high : (int32_t)(settings[i].low + apart);
+        }
+    return nth;
+}
+
+enum { FARM = 5 }; /* the farm whose versions are tested; the others' are fresh */
+
+/* A frame that changes all settings, or with no values one that reads them. */
+static struct bytes settings_frame(const struct values *values)
+{
+    struct bytes frame = hex(values == NULL ? "5F 00 2F 00  07 01 05 07" : "5F 00 2F 00  07 02 05 07");
+    const int32_t *from = values == NULL ? NULL : values->at;
+
+    for (size_t i = 0; i < WRITABLE; i++) {
+        add(&frame, "10 00 00 00 00 00");
+        frame.at[frame.len - 5] = settings[i].elements;
+        put_high(frame.at + frame.len - 4, settings[i].pnu, 2);
+    }
+    for (size_t i = 0; values != NULL && i < WRITABLE; i++) {
+        frame.at[frame.len++] = settings[i].size == 4 ? 0x43 : 0x42;
+        frame.at[frame.len++] = settings[i].elements;
+        for (unsigned element = 0; element < settings[i].elements; element++, frame.len += settings[i].size)
+            put_high(frame.at + frame.len, *from++, settings[i].size);
+    }
+    frame.at[3] = (uint8_t)(frame.len - 4);
+    return frame;
+}
+
+/* The fetch of what is read so: the change's own values, after the header. */
+static struct bytes settings_response(const struct values *values)
+{
+    struct bytes change = settings_frame(values), response = hex("5E 00 2F 3A  07 01 05 07");
+
+    memcpy(response.at + response.len, change.at + 8 + 6 * WRITABLE, 54);
+    response.len += 54;
+    return response;
+}
+
+/* The farm's settings and versions, by the rule. */
+static struct expected {
+    struct values now, slots[KEPT];
+    uint32_t last;
+} expected;
+
+static void expect_fresh(void)
+{
+    expected.now = fresh_values();
+    expected.last = 0;
+    for (unsigned slot = 0; slot < KEPT; slot++)
+        expected.slots[slot] = expected.now;
+}
+
+/* What is settled now becomes the next version. */
+static void expect_version(struct values now)
+{
+    expected.now = now;
+    expected.slots[expected.last++ % KEPT] = now;
+}
+
+static uint16_t expected_kept(void)
+{
+    return (uint16_t)(expected.last < KEPT ? expected.last : KEPT);
+}
+
+static uint16_t expected_oldest(void)
+{
+    return (uint16_t)(expected.last - expected_kept() + 1);
+}
+
+static struct values expected_in(uint32_t version)
+{
+    return expected.slots[(version - 1) % KEPT];
+}
+
+/* Writes what is expected into a part. */
+static void put_expected(uint8_t *to)
+{
+    uint8_t *column = to + VERSIONS_AT;
+    unsigned k = 0;
+
+    for (size_t i = 0; i < WRITABLE; i++)
+        for (unsigned element = 0; element < settings[i].elements; element++, k++) {
+            unsigned size = settings[i].size;
+
+            put_high(to + settings[i].at + size * element, expected.now.at[k], size);
+            for (unsigned slot = 0; slot < KEPT; slot++, column += size)
+                put_low(column, expected.slots[slot].at[k], size);
+        }
+    put_low(to + LAST_AT, (int32_t)expected.last, 2);
+}
+
+/* The farm's part is as before, but for the settings and versions, which are as expected; so is the list. */
+static void check_versions(const char *name, const uint8_t *before)
+{
+    uint8_t *wanted = memory_or_stop(part_size());
+
+    memcpy(wanted, before + (FARM - 1) * part_size(), part_size());
+    put_expected(wanted);
+    check_bytes(name, "own part", part(FARM), wanted, part_size());
+    list(name, FARM, 0, expected_oldest(), expected_kept());
+    free(wanted);
+}
+
+/* A station on which the farm has fresh settings and no version; they stand in the slots that are not yet in use. */
+static void fresh_farm(void)
+{
+    fresh_station();
+    expect_fresh();
+    check_number("fresh farm", "size of a part", (int64_t)part_size(), VERSIONS_END);
+    check_versions("fresh farm", start(&station));
+    for (uint32_t axis = 1; axis <= AXES; axis++)
+        check_bytes(named("fresh farm %" PRIu32, axis), "part", part(axis), part(FARM), part_size());
+}
+
+/* All settings by a write, which takes the version, and by the fetch, which takes none. */
+static void write_settings(const char *name, struct values values)
+{
+    struct bytes change = settings_frame(&values), acknowledgement = change;
+    uint8_t *before = copy_of(&station);
+
+    acknowledgement.len = 4;
+    send_by(llinkhiro_frame, name, (struct sending){ FARM, change, 0, REPLY, 0, SETTINGS, acknowledgement });
+    expect_version(values);
+    list(name, FARM, 0, expected_oldest(), expected_kept());
+    frame(name, FARM, fetch, 0, 0, "5E 00 2F 04  07 02 05 07");
+    check_versions(name, before);
+    free(before);
+}
+
+static void merge_settings(const char *name, struct values values)
+{
+    uint8_t *before = copy_of(&station);
+
+    exchange_sent(name, (struct sending){ FARM, settings_frame(&values), 0, REPLY, 0, SETTINGS,
+                                          hex("5E 00 2F 04  07 02 05 07") });
+    expect_version(values);
+    check_versions(name, before);
+    free(before);
+}
+
+static void return_to(const char *name, uint32_t version)
+{
+    uint8_t *before = copy_of(&station);
+
+    expect_version(expected_in(version));
+    go_back(name, FARM, version, 0, (uint16_t)expected.last);
+    check_versions(name, before);
+    free(before);
+}
+
+static void check_settings(const char *name)
+{
+    struct bytes response = settings_response(&expected.now);
+
+    exchange_sent(name, (struct sending){ FARM, settings_frame(NULL), 0, REPLY, 0, 0, response });
+}
+
+/* The next version, in the three ways by turns. */
+static void next_version(void)
+{
+    const char *name = named("version %" PRIu32, expected.last + 1);
+
+    if (expected.last % 3 == 0)
+        write_settings(name, nth_values(expected.last + 1));
+    else if (expected.last % 3 == 1)
+        merge_settings(name, nth_values(expected.last + 1));
+    else
+        return_to(name, expected_oldest());
+}
+
+static void farm_with(uint32_t versions)
+{
+    fresh_farm();
+    while (expected.last < versions)
+        next_version();
+}
+
+/* The list from fresh until the slots have been used twice over, and that of a farm beside it. */
+static void versions_listed(void)
+{
+    fresh_farm();
+    while (expected.last < 2 * KEPT + 2) {
+        next_version();
+        list("farm 4 beside it", FARM - 1, 0, 1, 0);
+    }
+    check_settings("settings after versions");
+    fresh("fresh again", 0);
+    list("fresh again", FARM, 0, 1, 0);
+}
+
+/* A merged call that stores so many elements of farm 1, and the number of versions after it. */
+static void taken(const char *name, const char *bytes, uint16_t stored, const char *reply, uint16_t versions)
+{
+    exchange(name, 1, bytes, 0, stored, reply);
+    list(name, 1, 0, 1, versions);
+}
+
+/* One version for each call that stores something, equal or not, in one address or in many; none for any other. */
+static void version_takers(void)
+{
+    static const char bad_good[] =
+        "5F 00 2F 18  07 02 01 02  10 01 75 31 00 00  10 01 26 AC 00 00  42 01 0B B9  42 01 00 05";
+    static const char good_twice[] =
+        "5F 00 2F 18  07 02 01 02  10 01 75 31 00 00  10 01 75 31 00 00  42 01 00 01  42 01 00 02";
+
+    fresh_station();
+    taken("a read takes none", read_930, 0, response_930, 0);
+    taken("a change that fails takes none", write_marks, 0, marks_response, 0);
+    taken("a change takes one", store_marks, MARKS_STORED, stored_response, 1);
+    taken("the same again takes one", store_marks, MARKS_STORED, stored_response, 2);
+    taken("one address of two stored", bad_good, 1, "5E 00 2F 0A  07 82 01 02  44 01 00 02  40 00", 3);
+    taken("two addresses stored", good_twice, 2, "5E 00 2F 04  07 02 01 02", 4);
+    frame("10: not readable", 1, "5F 00 2F 00", 10, 0, "DF 80 B8 00");
+    exchange("11: farm 2's axis", 1, mark_of_farm_2, 11, 0, "DF 80 B6 00");
+    cycle("a cycle", (struct turn){ .axis = 1, .stw1 = 0x047E, .state = 2, .status = 0x0331 });
+    frame("a write", 1, read_930, 0, 0, "5F 00 2F 0A");
+    frame("8: a change while its response waits", 1, store_marks, 8, 0, "DF 80 B5 00");
+    frame("its fetch", 1, fetch, 0, 0, response_930);
+    list("refusals, a cycle and a fetch take none", 1, 0, 1, 4);
+    go_back("a going back takes one", 1, 4, 0, 5);
+    go_back("14: one that is refused takes none", 1, 6, 14, 0);
+    list("after goings back", 1, 0, 1, 5);
+    list("farm 2's change was refused", 2, 0, 1, 0);
+}
+
+/* To the newest, to the oldest of 16, and back from there; and twice to the same. */
+static void going_back(void)
+{
+    farm_with(1);
+    return_to("to the only one", 1);
+    return_to("to the only one again", 1);
+    return_to("to what went back", 2);
+    farm_with(KEPT + 5);
+    check_settings("before going back");
+    return_to("to the newest", expected.last);
+    return_to("to the oldest of 16", expected_oldest());
+    check_settings("the oldest of 16");
+    return_to("and back from it", expected.last - 1);
+    check_settings("back from it");
+    uint32_t version = expected_oldest() + 7;
+    return_to("to one of 16", version);
+    return_to("to it again", version);
+    check_settings("to it again");
+    merge_settings("a change after it", nth_values(3));
+    return_to("and back from that", expected.last - 1);
+}
+
+/* Each version that is kept, with 1 to 18 taken: on a copy of the station, by the settings read and by every byte. */
+static void every_version(void)
+{
+    fresh_farm();
+    while (expected.last < KEPT + 2) {
+        next_version();
+        struct expected present = expected;
+        for (uint32_t version = expected_oldest(); version <= present.last; version++) {
+            struct memory whole = station;
+
+            station = station_again(whole.len);
+            return_to(named("to %" PRIu32 " of %" PRIu32, version, present.last), version);
+            check_settings(named("settings of %" PRIu32 " of %" PRIu32, version, present.last));
+            give_back(&station);
+            station = whole;
+            expected = present;
+        }
+    }
+}
+
+/* Words that lead a fresh axis to each state, and one with a fault. */
+static const struct way {
+    uint8_t state;
+    uint16_t words[4];
+    uint16_t fault;
+} ways[] = {
+    { 1, { 0 }, 0 },
+    { 2, { 0x047E }, 0 },
+    { 3, { 0x047E, 0x047F }, 0 },
+    { 4, { 0x047E, 0x047F, 0x047F }, 0 },
+    { 51, { 0x047E, 0x047F, 0x047F, 0x047E }, 0 },
+    { 52, { 0x047E, 0x047F, 0x047F, 0x047B }, 0 },
+    { 1, { 0x047E, 0x047F, 0x047F, 0x047F }, 0xFEDC },
+};
+
+/* The state, the faults and the words are left, and so is a response that waits: of all bytes of the part only the
+ * settings and the versions are others. The cycle after it uses the speed gone back to: 100 % is 60000. */
+static void state_kept(const struct way *way, bool waiting)
+{
+    struct llinkhiro_cycled got = { 0, 0, 1, 0 };
+
+    farm_with(4);
+    const char *name = named("state S%u, fault %04X%s", (unsigned)way->state, (unsigned)way->fault,
+                             waiting ? ", a response waits" : "");
+    for (unsigned i = 0; i < 4 && way->words[i] != 0; i++)
+        got = llinkhiro_cycle(start(&station), station.len, FARM, 0, way->words[i], 16384, -7, i == 3 ? way->fault : 0);
+    check_number(name, "state", got.state, way->state);
+    if (waiting)
+        frame(name, FARM, "5F 00 2F 0A  07 01 05 01  10 01 03 A2 00 00", 0, 0, "5F 00 2F 0A");
+    return_to(name, 2);
+    return_to(name, 3);
+    return_to(name, 2);
+    if (waiting)
+        frame(name, FARM, fetch, 0, 0, "5E 00 2F 08  07 01 05 01  42 01 00 01");
+    check_settings(name);
+    if (way->state == 4)
+        cycle(name, (struct turn){ .axis = FARM, .stw1 = 0x047F, .nsoll = 16384, .state = 4, .status = 0x0337,
+                                   .rpm = 60000 });
+}
+
+static void every_state(void)
+{
+    for (size_t i = 0; i < sizeof ways / sizeof ways[0]; i++) {
+        state_kept(&ways[i], false);
+        state_kept(&ways[i], true);
+    }
+}
+
+/* A going back of farm 16 made to deserve each number of the set and no other; a list of it is made too. Version 1 is
+ * kept until the numbers are used up, 65535 from then on. */
+static void going_back_deserving(unsigned set, enum spoiling how)
+{
+    uint32_t farm = has(set, 1) ? 17 : 16, kept = has(set, 15) ? 65535 : 1, not_kept = has(set, 15) ? 1 : 65535;
+
+    fresh_station();
+    exchange("version 1", 16, "5F 00 2F 0E  07 02 10 01  10 01 75 31 00 00  42 01 07 D0", 0, 1,
+             "5E 00 2F 04  07 02 10 01");
+    if (has(set, 15))
+        use_up(16);
+    if (has(set, 2))
+        spoil(how, 16);
+    go_back(named("going back that deserves%s%s", listed(set), spoiled(set, how)), farm,
+            has(set, 14) ? not_kept : kept, smallest(set), 0);
+    if (smallest(set) <= 2)
+        list(named("list that deserves%s%s", listed(set), spoiled(set, how)), farm, smallest(set), 0, 0);
+}
+
+/* A going back that deserves several of 1, 2, 14 and 15 is answered the smallest, and so is a list of 1 and 2. */
+static void going_back_order(void)
+{
+    for (unsigned set = 1 << 1; set < 1 << 16; set++)
+        if ((set & ~(1u << 1 | 1u << 2 | 1u << 14 | 1u << 15)) == 0) {
+            going_back_deserving(set, CUT);
+            if (has(set, 2))
+                going_back_deserving(set, OVERWRITTEN);
+        }
+}
+
+/* 14 for 0, for what is kept no more and for what is not yet taken, with so many versions. */
+static void numbers_around(uint32_t versions)
+{
+    farm_with(versions);
+    go_back(named("14: 0 of %" PRIu32, versions), FARM, 0, 14, 0);
+    for (uint32_t version = 1; version <= versions + KEPT; version++)
+        if (version < expected_oldest() || version > versions)
+            go_back(named("14: %" PRIu32 " of %" PRIu32, version, versions), FARM, version, 14, 0);
+}
+
+/* Number 14. A version of more than 16 bits does not become a small one. */
+static void not_kept(void)
+{
+    static const uint32_t more[] = { 0x10000, 0x20000, 0x01000000, 0x80000000, 0xFFFF0000, 0xFFFFFF00 };
+
+    numbers_around(0);
+    numbers_around(1);
+    numbers_around(KEPT - 1);
+    numbers_around(KEPT);
+    numbers_around(KEPT + 1);
+    numbers_around(2 * KEPT + 1);
+    for (size_t i = 0; i < sizeof more / sizeof more[0]; i++)
+        for (uint32_t version = expected_oldest() - 1u; version <= expected.last + 1; version++)
+            go_back(named("14: %" PRIu32, more[i] + version), FARM, more[i] + version, 14, 0);
+    go_back("14: 65535", FARM, 65535, 14, 0);
+    go_back("14: 65536", FARM, 65536, 14, 0);
+    go_back("14: the largest number", FARM, UINT32_MAX, 14, 0);
+    go_back("14: of a farm that has none", FARM + 1, 1, 14, 0);
+}
+
+/* Number 15 for whatever would store an element, beside what is answered as ever; and the number before it. */
+static void used_up(void)
+{
+    static const char half[] =
+        "5F 00 2F 18  07 02 01 02  10 01 75 31 00 00  10 01 26 AC 00 00  42 01 0B B9  42 01 00 05";
+    static const char bad[] =
+        "5F 00 2F 1A  07 02 01 02  10 02 75 31 00 00  10 01 03 A2 00 00  42 02 00 01 0B B9  42 01 00 01";
+
+    fresh_station();
+    exchange("marks to be kept", 1, store_marks, 0, MARKS_STORED, stored_response);
+    use_up(1);
+    part(1)[LAST_AT]--;
+    list("one number left", 1, 0, 65519, KEPT);
+    exchange("the last number", 1, store_marks, 0, MARKS_STORED, stored_response);
+    list("no number left", 1, 0, 65520, KEPT);
+    frame("15: a change", 1, store_marks, 15, 0, "DF 80 A1 00");
+    frame("15: a change of which one address fails", 1, half, 15, 0, "DF 80 A1 00");
+    frame("8: nothing waits", 1, fetch, 8, 0, "DE 80 B5 00");
+    exchange("a change of which every address fails", 1, bad, 0, 0,
+             "5E 00 2F 0C  07 82 01 02  44 01 00 02  44 01 00 01");
+    exchange("marks read", 1, read_marks, 0, 0, "5E 00 2F 0E  08 01 01 01  42 04 09 C4 0B B8 00 00 00 00");
+    frame("a read", 1, read_930, 0, 0, "5F 00 2F 0A");
+    frame("8: before 15", 1, store_marks, 8, 0, "DF 80 B5 00");
+    go_back("15: while a response waits", 1, 65520, 15, 0);
+    frame("its fetch", 1, fetch, 0, 0, response_930);
+    go_back("15: to the oldest", 1, 65520, 15, 0);
+    go_back("15: to the newest", 1, 65535, 15, 0);
+    go_back("14: before the oldest", 1, 65519, 14, 0);
+    go_back("14: after the newest", 1, 65536, 14, 0);
+    go_back("14: version 0", 1, 0, 14, 0);
+    cycle("a cycle", (struct turn){ .axis = 1, .stw1 = 0x047E, .state = 2, .status = 0x0331 });
+    exchange("farm 2 has numbers left", 2, mark_of_farm_2, 0, 1, "5E 00 2F 04  07 02 02 01");
+    list("farm 2 has numbers left", 2, 0, 1, 1);
+    fresh("fresh starts the numbers again", 0);
+    exchange("a change after that", 1, store_marks, 0, MARKS_STORED, stored_response);
+    list("a change after that", 1, 0, 1, 1);
+}
+
+enum { CHANGES = 70000, LAST_NUMBER = 65535, MARK_0 = 10 };
+
+/* The ways of a change, by turns: mark 0 by a merged call, all settings by a write and its fetch, going back. */
+enum { ONE_MERGED = 1, ALL_WRITTEN = 2, WAYS = 3 };
+
+/* The nth change of the farm, with no checks around it. The reply is that of the merged call or of the write. */
+static struct llinkhiro_framed changed(uint32_t n, uint8_t reply[REPLY])
+{
+    struct values values = nth_values(n);
+    struct bytes mark = hex("5F 00 2F 0E  07 02 05 01  10 01 75 31 00 00  42 01 00 00"), read = hex(fetch);
+    struct bytes all = settings_frame(&values);
+    uint8_t *at = start(&station), fetched[REPLY];
+
+    if (n % WAYS == ONE_MERGED) {
+        put_high(mark.at + 16, values.at[MARK_0], 2);
+        return llinkhiro_exchange(at, station.len, FARM, mark.at, mark.len, reply, REPLY);
+    }
+    if (n % WAYS == ALL_WRITTEN) {
+        struct llinkhiro_framed written = llinkhiro_frame(at, station.len, FARM, all.at, all.len, reply, REPLY);
+        llinkhiro_frame(at, station.len, FARM, read.at, read.len, fetched, REPLY);
+        return written;
+    }
+    struct llinkhiro_returned returned = llinkhiro_go_back(at, station.len, FARM, expected_oldest());
+    return (struct llinkhiro_framed){ 0, returned.stored, returned.number };
+}
+
+/* What it leaves by the rule. */
+static void expect_changed(uint32_t n)
+{
+    struct values values = n % WAYS == ALL_WRITTEN ? nth_values(n) : expected.now;
+
+    if (n % WAYS == ONE_MERGED)
+        values.at[MARK_0] = nth_values(n).at[MARK_0];
+    expect_version(n % WAYS == 0 ? expected_in(expected_oldest()) : values);
+}
+
+static void change_accepted(uint32_t n, const uint8_t *before)
+{
+    uint8_t reply[REPLY];
+    struct llinkhiro_framed got = changed(n, reply);
+    struct llinkhiro_listed kept = llinkhiro_versions(start(&station), station.len, FARM);
+    const char *name = named("change %" PRIu32, n);
+
+    expect_changed(n);
+    check_number(name, "number", got.number, 0);
+    check_number(name, "stored", got.stored, n % WAYS == ONE_MERGED ? 1 : SETTINGS);
+    check_number(name, "oldest", kept.oldest, expected_oldest());
+    check_number(name, "kept", kept.kept, expected_kept());
+    if (n % 1000 == 0 || n == LAST_NUMBER)
+        check_versions(name, before);
+}
+
+static void change_refused(uint32_t n, const uint8_t *before)
+{
+    struct bytes refusal = hex("DF 80 A1 00");
+    uint8_t reply[REPLY];
+    struct llinkhiro_framed got = changed(n, reply);
+    const char *name = named("change %" PRIu32, n);
+
+    check_number(name, "number", got.number, 15);
+    check_number(name, "stored", got.stored, 0);
+    check_number(name, "reply length", got.length, n % WAYS == 0 ? 0 : 4);
+    check_bytes(name, "reply", reply, refusal.at, got.length);
+    check(name, "station unchanged", memcmp(start(&station), before, station.len) == 0);
+}
+
+/* What is answered as ever when the numbers are used up: reads, changes that fail, cycles, lists, and other farms. */
+static void after_used_up(void)
+{
+    uint8_t *before = copy_of(&station);
+
+    check_settings("settings read");
+    frame("a read", FARM, "5F 00 2F 0A  07 01 05 01  10 01 03 A2 00 00", 0, 0, "5F 00 2F 0A");
+    frame("its fetch", FARM, fetch, 0, 0, "5E 00 2F 08  07 01 05 01  42 01 00 01");
+    frame("a change that fails", FARM, "5F 00 2F 0E  07 02 05 01  10 01 75 31 00 00  42 01 0B B9", 0, 0,
+          "5F 00 2F 0E");
+    frame("why it failed", FARM, fetch, 0, 0, "5E 00 2F 08  07 82 05 01  44 01 00 02");
+    check_versions("after reads and a change that fails", before);
+    cycle("a cycle", (struct turn){ .axis = FARM, .stw1 = 0x047F, .nist = 32767, .state = 1, .status = 0x0670 });
+    exchange("farm 6 changes a mark", FARM + 1, "5F 00 2F 0E  07 02 06 01  10 01 75 31 00 00  42 01 0B B8", 0, 1,
+             "5E 00 2F 04  07 02 06 01");
+    go_back("farm 6 goes back", FARM + 1, 1, 0, 2);
+    list("farm 6", FARM + 1, 0, 1, 2);
+    for (uint32_t version = LAST_NUMBER - KEPT + 1; version <= LAST_NUMBER; version++) {
+        go_back(named("15: to %" PRIu32, version), FARM, version, 15, 0);
+        go_back(named("14: to %" PRIu32, version - KEPT), FARM, version - KEPT, 14, 0);
+        go_back(named("14: to %" PRIu32, version + KEPT), FARM, version + KEPT, 14, 0);
+        go_back(named("14: to %" PRIu32, version + 65536), FARM, version + 65536, 14, 0);
+    }
+    free(before);
+}
+
+/* "numbers run from 1 to 65535, each used once." Every further change is 15. */
+static void many_changes(void)
+{
+    fresh_farm();
+    uint8_t *before = copy_of(&station);
+    for (uint32_t n = 1; n <= LAST_NUMBER; n++)
+        change_accepted(n, before);
+    check_station("65535 changes", before, FARM);
+    uint8_t *used = copy_of(&station);
+    for (uint32_t n = LAST_NUMBER + 1; n <= CHANGES; n++)
+        change_refused(n, used);
+    check("70000 changes", "guards of the station", guards_kept(&station));
+    after_used_up();
+    free(before);
+    free(used);
+}
+
+/* Whether the number that a byte of the versions is part of lies inside its limits; the last number used has none. */
+static bool inside_limits(const uint8_t *versions, size_t place)
+{
+    for (size_t i = 0; i < WRITABLE; i++) {
+        size_t size = settings[i].size, len = KEPT * size * settings[i].elements;
+
+        if (place < len) {
+            int32_t number = low_number(versions + place / size * size, settings[i].size);
+
+            return number >= settings[i].low && number <= settings[i].high;
+        }
+        versions += len;
+        place -= len;
+    }
+    return true;
+}
+
+/* Every call of the farm is 2. */
+static bool all_refused(void)
+{
+    struct bytes read = hex("5F 00 2F 0A  07 01 05 01  10 01 03 A2 00 00");
+    uint8_t *at = start(&station), reply[REPLY];
+
+    return llinkhiro_cycle(at, station.len, FARM, 0, 0x047E, 0, 0, 0).number == 2 &&
+           llinkhiro_frame(at, station.len, FARM, read.at, read.len, reply, REPLY).number == 2 &&
+           llinkhiro_exchange(at, station.len, FARM, read.at, read.len, reply, REPLY).number == 2 &&
+           llinkhiro_go_back(at, station.len, FARM, expected_oldest()).number == 2;
+}
+
+/* A list with one byte of the versions altered: 2, or the numbers up to the last used as it now stands. */
+static void altered(size_t place, uint8_t byte)
+{
+    uint8_t *versions = part(FARM) + VERSIONS_AT, true_byte = versions[place];
+    const char *name = named("byte %zu of the versions %02X", place, (unsigned)byte);
+
+    versions[place] = byte;
+    bool inside = inside_limits(versions, place);
+    int32_t last = low_number(part(FARM) + LAST_AT, 2), kept = last < KEPT ? last : KEPT;
+    struct llinkhiro_listed got = llinkhiro_versions(start(&station), station.len, FARM);
+    check_number(name, "number", got.number, inside ? 0 : 2);
+    check(name, "list", got.oldest == (inside ? last - kept + 1 : 0) && got.kept == (inside ? kept : 0));
+    if (!inside)
+        check(name, "2 for every call", all_refused());
+    versions[place] = true_byte;
+}
+
+/* Every byte of the versions, with every other value. */
+static void bytes_altered(void)
+{
+    uint8_t *before = copy_of(&station);
+
+    for (size_t place = 0; place < VERSIONS_END - VERSIONS_AT; place++) {
+        uint8_t byte = part(FARM)[VERSIONS_AT + place];
+
+        for (unsigned more = 1; more < 256; more++)
+            altered(place, (uint8_t)(byte + more));
+    }
+    check_station("bytes altered", before, 0);
+    free(before);
+}
+
+/* Number 2 by the versions: of a fresh farm, whose slots are tested too, and of one with versions at the limits. */
+static void every_byte(void)
+{
+    fresh_farm();
+    bytes_altered();
+    farm_with(KEPT + 5);
+    bytes_altered();
+}
+
 /* Yes, and checks 1, 2 and 7, by hand. Block k is held against address k, and an error counts nothing. */
 static void checked_by_hand(void)
 {
@@ -1990,6 +2703,8 @@ static void offsets(void)
         merged_waiting();
         faults();
         full_reply();
+        versions_listed();
+        going_back();
         checked_by_hand();
     }
     offset = 0;
@@ -2021,6 +2736,12 @@ static void placed(enum placing here)
     addresses();
     cycles();
     faults();
+    versions_listed();
+    version_takers();
+    going_back();
+    going_back_order();
+    not_kept();
+    used_up();
     checked_by_hand();
     checked_headers();
     unreadable_responses();
@@ -2045,7 +2766,7 @@ static void fenced_below(void)
 }
 
 /* Memory that nobody wrote to: fresh reads none of the station's, a frame and a merged call none of the reply's, and a
- * check none past the response. */
+ * check none past the response. All that a list and a going back read was made by fresh. */
 static void unwritten(void)
 {
     size_t size = llinkhiro_size();
@@ -2067,6 +2788,8 @@ static void unwritten(void)
     check_number("unwritten", "exchanged", exchanged.number, 0);
     check_number("unwritten", "length exchanged", exchanged.length, 12);
     check_bytes("unwritten", "response exchanged", merged, response.at, response.len);
+    check_number("unwritten", "list", llinkhiro_versions(lent, size, 1).number, 0);
+    check_number("unwritten", "going back", llinkhiro_go_back(lent, size, 1, 1).number, 14);
     check_number("unwritten", "response checked", llinkhiro_check(request.at + 4, request.len - 4, merged + 4, 8), 0);
     check_bytes("unwritten", "station idle", lent, start(&station), size);
     free(lent);
@@ -2115,6 +2838,16 @@ static const struct group {
     { "every parameter number", every_number },
     { "cycles", cycles },
     { "faults", faults },
+    { "versions listed", versions_listed },
+    { "what takes a version", version_takers },
+    { "going back", going_back },
+    { "going back, every version", every_version },
+    { "going back, every state", every_state },
+    { "order of a going back's numbers", going_back_order },
+    { "number 14", not_kept },
+    { "number 15", used_up },
+    { "70000 changes", many_changes },
+    { "number 2, every byte of the versions", every_byte },
     { "check, yes and numbers 1, 2 and 7", checked_by_hand },
     { "check, numbers 3 to 6", checked_headers },
     { "check, what it does not look at", not_checked },

@@ -98,10 +98,9 @@ fn alike(row: &Row) -> Result<(), String> {
     }
 }
 
-/// One row on stations of its own, and the least that each side has taken.
+/// One row, and the least that each side has taken.
 struct Timed<'a> {
     row: &'a Row,
-    sides: (Ours, Twin, Plain),
     passes: usize,
     best: Figures,
 }
@@ -117,19 +116,21 @@ fn timed(rows: &[Row]) -> Vec<Figures> {
 
 impl Timed<'_> {
     fn new(row: &Row) -> Timed<'_> {
-        let sides = (started(row), started(row), started(row));
-        let mut timed = Timed { row, sides, passes: 1, best: [f64::INFINITY; SIDES.len()] };
-        while timed.batches().into_iter().fold(f64::INFINITY, f64::min) < BATCH {
+        let mut timed = Timed { row, passes: 1, best: [f64::INFINITY; SIDES.len()] };
+        while 2 * timed.passes <= row.most_passes() && timed.shortest() < BATCH {
             timed.passes *= 2;
         }
         timed
     }
 
+    fn shortest(&self) -> f64 {
+        self.batches().into_iter().fold(f64::INFINITY, f64::min)
+    }
+
     /// Nanoseconds of a batch of each side.
-    fn batches(&mut self) -> Figures {
-        let (ours, twin, plain) = &mut self.sides;
+    fn batches(&self) -> Figures {
         let (row, passes) = (self.row, self.passes);
-        [time(ours, row, passes), time(twin, row, passes), time(plain, row, passes)]
+        [time::<Ours>(row, passes), time::<Twin>(row, passes), time::<Plain>(row, passes)]
     }
 
     fn round(&mut self) {
@@ -142,9 +143,11 @@ impl Timed<'_> {
     }
 }
 
-fn time<S: Side>(side: &mut S, row: &Row, passes: usize) -> f64 {
+/// On a station of its own, since versions are numbered for as long as a station lives.
+fn time<S: Side>(row: &Row, passes: usize) -> f64 {
+    let mut side = started::<S>(row);
     let begin = Instant::now();
-    run(side, row, passes);
+    run(&mut side, row, passes);
     begin.elapsed().as_nanos() as f64
 }
 

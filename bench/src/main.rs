@@ -49,7 +49,8 @@ fn main() -> ExitCode {
 
 fn bench(emulator: &str, counter: &str, journal: &str, jobs: &[Job]) -> Result<(), Box<dyn Error>> {
     println!(
-        "A cycle, a write and its fetch, a merged call, a frame, a check, a record: the best of many rounds, the sides taking turns."
+        "A cycle, a write and its fetch, a merged call, a frame, a list, a going back, a check, a record: the best of many rounds, \
+         the sides taking turns."
     );
     if !emulator.is_empty() {
         println!("UNDER AN EMULATOR ({emulator}): the times are its own, and only their ratios speak.");

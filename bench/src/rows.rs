@@ -1,5 +1,7 @@
 //! The inputs that are measured, one row of the table each.
 
+use twin::KEPT;
+
 /// The inputs of one control cycle.
 #[derive(Clone, Copy)]
 pub struct Cycle {
@@ -11,15 +13,29 @@ pub struct Cycle {
     pub fault: u16,
 }
 
-/// An exchange is the merged call; a check is of blocks, not of frames.
+/// An exchange is the merged call; a check is of blocks, not of frames. A going back names the version as the first pass has it:
+/// the numbers of the versions rise, so each later pass goes back to one that is as much later as the passes before it took.
 pub enum Call {
     Cycle(Cycle),
     Frame { farm: u32, frame: Vec<u8> },
     Exchange { farm: u32, frame: Vec<u8> },
+    Versions { farm: u32 },
+    GoBack { farm: u32, version: u32 },
     Check { request: Vec<u8>, response: Vec<u8> },
 }
 
-/// One row. `calls` end where they began, so that they can be made again and again.
+impl Call {
+    /// Whether it takes a version, where it is done and stores something.
+    fn changes(&self) -> bool {
+        match self {
+            Call::Frame { frame, .. } | Call::Exchange { frame, .. } => frame[0] == WRITE && frame[5] == CHANGE,
+            Call::GoBack { .. } => true,
+            Call::Cycle(_) | Call::Versions { .. } | Call::Check { .. } => false,
+        }
+    }
+}
+
+/// One row. `calls` end where they began, but for the numbers of the versions, so that they can be made again and again.
 pub struct Row {
     pub name: String,
     /// Made once, before the calls.
@@ -31,6 +47,19 @@ pub struct Row {
     pub addresses: Option<usize>,
     /// The number that each call answers.
     pub number: u8,
+}
+
+impl Row {
+    /// Versions that a pass over the calls takes.
+    pub fn versions(&self) -> usize {
+        self.calls.iter().filter(|call| self.number == 0 && call.changes()).count()
+    }
+
+    /// The most passes over the calls from their start on, before the numbers of the versions are used up.
+    pub fn most_passes(&self) -> usize {
+        let left = usize::from(u16::MAX) - self.start.len();
+        left.checked_div(self.versions()).unwrap_or(usize::MAX)
+    }
 }
 
 /// Requests of farm 1, each a block. Written and fetched they are one row, by the merged call another, checked a third.
@@ -46,6 +75,9 @@ pub const MERGED: [&str; 4] = ["1 read", "39 read", "1 element changed", "18 ele
 const CHECKED: [&str; 3] = ["1 read", "39 read", "18 elements changed"];
 
 const STANDSTILL: u32 = 1;
+/// The first byte of a write frame, and the second of a block that changes.
+const WRITE: u8 = 0x5F;
+const CHANGE: u8 = 0x02;
 /// The most parameters of a request: 4 + 39 * 6 = 238 bytes, and document 01 allows no more.
 const MOST_ADDRESSES: usize = 39;
 
@@ -55,7 +87,7 @@ pub fn rows() -> Vec<Row> {
     let mut rows = vec![operation(), walk()];
     rows.extend(requests.iter().map(Requests::written_and_fetched));
     rows.extend(requests.iter().filter(|of| MERGED.contains(&of.what.as_str())).map(Requests::merged));
-    rows.push(denied());
+    rows.extend([denied(), list(), going_back()]);
     rows.extend(requests.iter().filter(|of| CHECKED.contains(&of.what.as_str())).map(Requests::checked));
     rows.push(mistaken());
     rows
@@ -115,7 +147,7 @@ fn walk() -> Row {
 }
 
 fn write(block: &[u8]) -> Vec<u8> {
-    let mut frame = vec![0x5F, 0x00, 0x2F, u8::try_from(block.len()).expect("a block has at most 240 bytes")];
+    let mut frame = vec![WRITE, 0x00, 0x2F, u8::try_from(block.len()).expect("a block has at most 240 bytes")];
     frame.extend(block);
     frame
 }
@@ -226,6 +258,25 @@ fn denied() -> Row {
     let name = "frame denied (another farm's axis)".into();
     let calls = vec![Call::Frame { farm: 2, frame: write(&block) }];
     Row { name, start: vec![], calls, units: 1, addresses: None, number: 11 }
+}
+
+/// Changes of every element, so many that all the versions which are kept are full.
+fn versions_full() -> Vec<Call> {
+    let changed = |nth| Call::Exchange { farm: 1, frame: write(&all_elements(1 + (nth % 15) as u8)) };
+    (0..KEPT).map(changed).collect()
+}
+
+/// What is kept, when nothing more fits.
+fn list() -> Row {
+    let name = "list of 16 versions".into();
+    Row { name, start: versions_full(), calls: vec![Call::Versions { farm: 1 }], units: 1, addresses: None, number: 0 }
+}
+
+/// Back to the oldest version, in whose slot the new one is then kept.
+fn going_back() -> Row {
+    let name = "going back to the oldest of 16".into();
+    let calls = vec![Call::GoBack { farm: 1, version: 1 }];
+    Row { name, start: versions_full(), calls, units: 1, addresses: None, number: 0 }
 }
 
 /// A response that is right in all but its reference, number 3: both blocks are read to their end, and no count is compared.

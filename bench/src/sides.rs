@@ -1,7 +1,7 @@
 //! The three sides: the proved library, the twin and plain C, behind one face. The only unsafe code stands here.
 
 use crate::rows::Cycle;
-use twin::{Cycled, Framed, Station};
+use twin::{Cycled, Framed, Listed, Returned, Station};
 
 /// One implementation and a station of its own.
 pub trait Side {
@@ -9,11 +9,17 @@ pub trait Side {
     type Cycled: Into<Cycled>;
     /// Its own answer of a frame or a merged call.
     type Framed: Into<Framed>;
+    /// Its own answer of a list.
+    type Listed: Into<Listed>;
+    /// Its own answer of a going back.
+    type Returned: Into<Returned>;
 
     fn fresh() -> Self;
     fn cycle(&mut self, cycle: &Cycle) -> Self::Cycled;
     fn frame(&mut self, farm: u32, frame: &[u8], reply: &mut [u8]) -> Self::Framed;
     fn exchange(&mut self, farm: u32, frame: &[u8], reply: &mut [u8]) -> Self::Framed;
+    fn versions(&self, farm: u32) -> Self::Listed;
+    fn go_back(&mut self, farm: u32, version: u32) -> Self::Returned;
     /// It takes no station.
     fn check(request: &[u8], response: &[u8]) -> u8;
 }
@@ -23,6 +29,8 @@ pub struct Twin(Station);
 impl Side for Twin {
     type Cycled = Cycled;
     type Framed = Framed;
+    type Listed = Listed;
+    type Returned = Returned;
 
     fn fresh() -> Twin {
         Twin(Station::fresh())
@@ -38,6 +46,14 @@ impl Side for Twin {
 
     fn exchange(&mut self, farm: u32, frame: &[u8], reply: &mut [u8]) -> Framed {
         self.0.exchange(farm, frame, reply)
+    }
+
+    fn versions(&self, farm: u32) -> Listed {
+        self.0.versions(farm)
+    }
+
+    fn go_back(&mut self, farm: u32, version: u32) -> Returned {
+        self.0.go_back(farm, version)
     }
 
     fn check(request: &[u8], response: &[u8]) -> u8 {
@@ -62,6 +78,22 @@ pub struct CFramed {
     number: u8,
 }
 
+/// `struct llinkhiro_listed` of `include/llinkhiro.h`.
+#[repr(C)]
+pub struct CListed {
+    oldest: u16,
+    kept: u16,
+    number: u8,
+}
+
+/// `struct llinkhiro_returned` of `include/llinkhiro.h`.
+#[repr(C)]
+pub struct CReturned {
+    stored: u16,
+    version: u16,
+    number: u8,
+}
+
 impl From<CCycled> for Cycled {
     fn from(c: CCycled) -> Cycled {
         Cycled { rpm: c.rpm, status: c.status, state: c.state, number: c.number }
@@ -74,9 +106,24 @@ impl From<CFramed> for Framed {
     }
 }
 
+impl From<CListed> for Listed {
+    fn from(l: CListed) -> Listed {
+        Listed { oldest: l.oldest, kept: l.kept, number: l.number }
+    }
+}
+
+impl From<CReturned> for Returned {
+    fn from(r: CReturned) -> Returned {
+        Returned { stored: r.stored, version: r.version, number: r.number }
+    }
+}
+
 /// A side with the face of `include/llinkhiro.h`, whose functions have these names. Those that take a frame have one face.
 macro_rules! c_side {
-    ($side:ident, $size:ident, $fresh:ident, $cycle:ident, $check:ident, $($framed:ident: $name:ident),*) => {
+    (
+        $side:ident, $size:ident, $fresh:ident, $cycle:ident, $versions:ident, $go_back:ident, $check:ident,
+        $($framed:ident: $name:ident),*
+    ) => {
         extern "C" {
             fn $size() -> usize;
             fn $fresh(station: *mut u8, len: usize) -> u8;
@@ -90,6 +137,8 @@ macro_rules! c_side {
                 nist: i16,
                 fault: u16,
             ) -> CCycled;
+            fn $versions(station: *const u8, len: usize, farm: u32) -> CListed;
+            fn $go_back(station: *mut u8, len: usize, farm: u32, version: u32) -> CReturned;
             fn $check(request: *const u8, request_len: usize, response: *const u8, response_len: usize) -> u8;
             $(fn $name(
                 station: *mut u8,
@@ -108,6 +157,8 @@ macro_rules! c_side {
         impl Side for $side {
             type Cycled = CCycled;
             type Framed = CFramed;
+            type Listed = CListed;
+            type Returned = CReturned;
 
             fn fresh() -> $side {
                 let mut station = vec![0; unsafe { $size() }];
@@ -118,6 +169,14 @@ macro_rules! c_side {
             fn cycle(&mut self, c: &Cycle) -> CCycled {
                 let (at, len) = (self.0.as_mut_ptr(), self.0.len());
                 unsafe { $cycle(at, len, c.axis, c.flags, c.stw1, c.nsoll, c.nist, c.fault) }
+            }
+
+            fn versions(&self, farm: u32) -> CListed {
+                unsafe { $versions(self.0.as_ptr(), self.0.len(), farm) }
+            }
+
+            fn go_back(&mut self, farm: u32, version: u32) -> CReturned {
+                unsafe { $go_back(self.0.as_mut_ptr(), self.0.len(), farm, version) }
             }
 
             fn check(request: &[u8], response: &[u8]) -> u8 {
@@ -133,7 +192,10 @@ macro_rules! c_side {
 }
 
 c_side!(
-    Ours, llinkhiro_size, llinkhiro_fresh, llinkhiro_cycle, llinkhiro_check, frame: llinkhiro_frame,
-    exchange: llinkhiro_exchange
+    Ours, llinkhiro_size, llinkhiro_fresh, llinkhiro_cycle, llinkhiro_versions, llinkhiro_go_back, llinkhiro_check,
+    frame: llinkhiro_frame, exchange: llinkhiro_exchange
 );
-c_side!(Plain, plain_size, plain_fresh, plain_cycle, plain_check, frame: plain_frame, exchange: plain_exchange);
+c_side!(
+    Plain, plain_size, plain_fresh, plain_cycle, plain_versions, plain_go_back, plain_check,
+    frame: plain_frame, exchange: plain_exchange
+);
