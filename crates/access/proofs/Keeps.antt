@@ -2,14 +2,13 @@
 -- that it is well-formed.
 use mathlib.Core.Path.{_≡_, refl, sym, ap, _∙_}
 use mathlib.Core.Bool.{Bool, true, false, cond, not, _&&_, _||_, true≢false, and-eq-true-iff}
-use mathlib.Core.List.{List, [], _∷_, _++_, List·Memᴰ, List·Memᴰ·head, List·Memᴰ·tail}
+use mathlib.Core.List.{List, [], _∷_, List·Memᴰ, List·Memᴰ·head, List·Memᴰ·tail}
 use mathlib.Core.Logic.{_⊎_, inl, inr}
 use Prim.Native.Nat.{ℕ, zero, suc, _+_, _-_, _^_, _≤_, _<_}
 use native.Mathlib.Decide.{decLe}
 use native.Mathlib.Omega.{arith}
 use lib.Dec.{eqb}
-use lib.ListN.{length, take, drop, length-take}
-use lib.Seq.{drop-drop, drop-at, take-add}
+use lib.ListN.{length, take, drop}
 use borrow.Author.Tests.{eqb-true, not-true, not-false}
 use borrow.Table.Steps.{cases}
 use Rattle.codes.specs.Code.{Got, got, bad, AllOf, readable}
@@ -34,11 +33,11 @@ use Rattle.versions.specs.Fit.{versionsFit}
 use Rattle.part.specs.Layout.{stateAt, lengthAt, responseAt, versionsAt, partSize, withResponse, versions, withVersion}
 use Rattle.part.specs.Record.{wordsAt}
 use Rattle.part.specs.WellFormed.{isState, limitsFit, fixedFit, waitingFits, unusedFit, wellFormed}
-use Rattle.part.proofs.Laws.{response-well-formed}
-use Rattle.part.proofs.Versions.{front-element, front-taken, version-length, version-front, version-taken, version-well-formed}
+use Rattle.part.proofs.Laws.{response-well-formed, drop-later}
+use Rattle.part.proofs.Versions.{front-element, front-taken, version-length, version-front, version-taken, version-well-formed, front-middle}
 use Rattle.access.specs.Change.{storeFrom, success, changeOne, ChangedAll, changeAll}
 use Rattle.access.specs.Work.{Worked, versioned, worked, Outcome, exhausts, admittedIf, outcomeOf}
-use Rattle.access.specs.Laws.{ReadKeeps, StoredBy, Stored, Storable, Allowed, between, Kept, OnlyStoredChanges, VersionsFollow, RequestKeepsWellFormed, BlockKeepsWellFormed}
+use Rattle.access.specs.Laws.{ReadKeeps, StoredBy, Stored, Storable, Allowed, Kept, OnlyStoredChanges, VersionsFollow, RequestKeepsWellFormed, BlockKeepsWellFormed}
 use Rattle.access.proofs.Checks.{pick, Named}
 use Rattle.access.proofs.Lengths.{change-length}
 use Rattle.access.proofs.Answers.{change-cases, storable-small, answer-readable, answer-axis}
@@ -80,21 +79,9 @@ module _ {May : Row → ℕ → Type 0} where
       (λ t.
       record {
         size = version-length p;
-        others = between-kept;
+        others = front-middle p (withVersion p) (version-front p);
         elements = λ q m j h. inl (front-element p (withVersion p) (version-front p) q m j h);
       })
-    where
-      front : take parameterBytes (withVersion p) ++ between (withVersion p) ≡ take parameterBytes p ++ between p
-      front =
-          let e : parameterBytes + (versionsAt - parameterBytes) ≡ versionsAt = omega arith in
-          sym (take-add parameterBytes (versionsAt - parameterBytes) (withVersion p))
-          ∙ (rw e (version-front p) ∙ take-add parameterBytes (versionsAt - parameterBytes) p)
-
-      between-kept : between (withVersion p) ≡ between p
-      between-kept =
-          let k = length (take parameterBytes p) in
-          let e : length (take parameterBytes (withVersion p)) ≡ k = length-take parameterBytes (withVersion p) ∙ rw (version-length p) (sym (length-take parameterBytes p)) in
-          sym (drop-at (take parameterBytes (withVersion p)) (between (withVersion p)) k e) ∙ (ap (drop k) front ∙ drop-at (take parameterBytes p) (between p) k refl)
 
 -- n elements of a row, from element i on
 abbrev pub Among : Row → ℕ → ℕ → Row → ℕ → Type 0
@@ -172,11 +159,6 @@ all-beyond (a ∷ more) (b ∷ sent) p =
     ∙ change-cases a b p (λ c. drop parameterBytes (c .part) ≡ drop parameterBytes p) (λ e small. refl)
     (λ s named. store-beyond (s .row) (named .row) (a .subindex) (b .values) p (omega (arith, s .count, named .room)))
 
-beyond-from : (p after : List ℕ) → drop parameterBytes after ≡ drop parameterBytes p → (n : ℕ) → parameterBytes ≤ n → drop n after ≡ drop n p
-beyond-from p after beyond n h =
-    let e : n ≡ parameterBytes + (n - parameterBytes) = omega arith in
-    rw e (sym (drop-drop (n - parameterBytes) parameterBytes after) ∙ (ap (drop (n - parameterBytes)) beyond ∙ drop-drop (n - parameterBytes) parameterBytes p))
-
 pub versions-follow : VersionsFollow
 unfolding worked
 versions-follow r p size =
@@ -190,7 +172,7 @@ versions-follow r p size =
     c = changeAll (r .addresses) (r .blocks) p
 
     same : versions (c .part) ≡ versions p
-    same = beyond-from p (c .part) (all-beyond (r .addresses) (r .blocks) p) versionsAt (omega arith)
+    same = drop-later parameterBytes versionsAt p (c .part) (omega arith) (all-beyond (r .addresses) (r .blocks) p)
 
 -- A well-formed part stays well-formed.
 and-map : {a b c d : Bool} → (a ≡ true → c ≡ true) → (b ≡ true → d ≡ true) → a && b ≡ true → c && d ≡ true
@@ -217,7 +199,7 @@ fixed-row q m e = not-true (q .writable) (rw e at (every-row (λ r. not (eqb (r 
 module _ (May : Row → ℕ → Type 0) (writes : (q : Row) (j : ℕ) → May q j → q .writable ≡ true) (p after : List ℕ) (k : Kept May p after) (beyond : drop parameterBytes after ≡ drop parameterBytes p) where
   number-beyond : (w n : ℕ) → parameterBytes ≤ n → numberAt w after n ≡ numberAt w p n
   unfolding numberAt
-  number-beyond w n h = rw (beyond-from p after beyond n h)
+  number-beyond w n h = rw (drop-later parameterBytes n p after h beyond)
 
   unwritten : (q : Row) → List·Memᴰ q rows → q .writable ≡ false → (j : ℕ) → j < q .count → elementOf q j after ≡ elementOf q j p
   unwritten q m shut j h = go (k .elements q m j h)
@@ -252,11 +234,11 @@ module _ (May : Row → ℕ → Type 0) (writes : (q : Row) (j : ℕ) → May q 
 
   waiting-kept : (axis : ℕ) → waitingFits axis after ≡ waitingFits axis p
   unfolding waitingFits
-  waiting-kept axis = rw (number-beyond 1 lengthAt (omega arith), beyond-from p after beyond responseAt (omega arith))
+  waiting-kept axis = rw (number-beyond 1 lengthAt (omega arith), drop-later parameterBytes responseAt p after (omega arith) beyond)
 
   unused-kept : unusedFit after ≡ unusedFit p
   unfolding unusedFit
-  unused-kept = rw (number-beyond 1 lengthAt (omega arith), beyond-from p after beyond responseAt (omega arith))
+  unused-kept = rw (number-beyond 1 lengthAt (omega arith), drop-later parameterBytes responseAt p after (omega arith) beyond)
 
   pub well-formed-kept : (axis : ℕ) → wellFormed axis p ≡ true → wellFormed axis after ≡ true
   unfolding wellFormed
@@ -275,7 +257,7 @@ module _ (May : Row → ℕ → Type 0) (writes : (q : Row) (j : ℕ) → May q 
       (same (ap (allProper situations) faults-kept)))
       (same (waiting-kept axis)))
       (same unused-kept))
-      (same (ap versionsFit (beyond-from p after beyond versionsAt (omega arith))))
+      (same (ap versionsFit (drop-later parameterBytes versionsAt p after (omega arith) beyond)))
     where
       same : {a b : Bool} → b ≡ a → a ≡ true → b ≡ true
       same e t = e ∙ t

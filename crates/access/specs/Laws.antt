@@ -6,7 +6,7 @@ use mathlib.Core.List.{List, [], _∷_, _++_, List·Memᴰ}
 use mathlib.Core.Logic.{_⊎_, _↔_}
 use Prim.Native.Nat.{ℕ, _+_, _-_, _≤_, _<_}
 use lib.Dec.{eqb}
-use lib.ListN.{length, getD, take, drop}
+use lib.ListN.{length, getD}
 use Rattle.codes.specs.Code.{AllOf, readable}
 use Rattle.blocks.specs.Block.{Block, blockLimit}
 use Rattle.blocks.specs.Request.{Request}
@@ -17,10 +17,10 @@ use Rattle.blocks.specs.declared.reader.Address.{Address}
 use Rattle.checker.specs.Laws.{Answers}
 use Rattle.catalogue.specs.declared.Row.{Row}
 use Rattle.catalogue.specs.declared.Found.the-variants.{At}
-use Rattle.catalogue.specs.Table.{rows, parameterBytes, findOf}
+use Rattle.catalogue.specs.Table.{rows, findOf}
 use Rattle.catalogue.specs.Element.{sizeCode, typeCode, inside, elementOf}
 use Rattle.versions.specs.Keep.{taken}
-use Rattle.part.specs.Layout.{versionsAt, partSize, versions}
+use Rattle.part.specs.Layout.{partSize, middle, versions}
 use Rattle.part.specs.WellFormed.{wellFormed}
 use Rattle.access.specs.declared.Checked.the-variants.{Elements}
 use Rattle.access.specs.Address.{checked, emptyBlock}
@@ -114,14 +114,10 @@ Stored (a ∷ them) (b ∷ sent) p q j = let c = changeOne a b p in StoredBy a c
 abbrev pub Allowed : (Row → ℕ → Type 0) → List ℕ → List ℕ → Row → ℕ → Type 0
 Allowed May p after q j = (elementOf q j after ≡ elementOf q j p) ⊎ (May q j × (inside q (elementOf q j after) ≡ true))
 
--- the bytes between the parameters and the versions: there stand the state, the effective setpoint and the waiting response
-abbrev pub between : List ℕ → List ℕ
-between p = take (versionsAt - parameterBytes) (drop parameterBytes p)
-
 -- No element of the table is changed but those that may be, and no byte between the parameters and the versions.
 pub record Kept (May : Row → ℕ → Type 0) (p after : List ℕ) : Type 0 where
   pub size : length after ≡ length p
-  pub others : between after ≡ between p
+  pub others : middle after ≡ middle p
   pub elements : (q : Row) → List·Memᴰ q rows → (j : ℕ) → j < q .count → Allowed May p after q j
 
 -- "not writable 0x01", "outside limits 0x02": only what is writable and stored can change, and only to values inside the limits

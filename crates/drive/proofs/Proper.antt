@@ -81,7 +81,8 @@ put-proper x (y ∷ ys) nz h p =
     let no : isIn y (set ys (firstIn 0 ys) x) ≡ false = set-absent y x (firstIn 0 ys) ys (not-true (isIn y ys) (both .0)) other in
     rw (e, e, no) (put-proper x ys nz (neither .1) (both .1)))
 
-drop-take : (k m : ℕ) (l : List ℕ) → drop k (take (k + m) l) ≡ take m (drop k l)
+-- what is left of the first ones
+pub drop-take : (k m : ℕ) (l : List ℕ) → drop k (take (k + m) l) ≡ take m (drop k l)
 drop-take zero m l = ap (λ (n : ℕ). take n l) (zero-add m)
 drop-take (suc k) m [] = ap (drop (suc k)) (take-nil (suc k + m)) ∙ sym (take-nil m)
 drop-take (suc k) m (x ∷ xs) = ap (λ (n : ℕ). drop (suc k) (take n (x ∷ xs))) (suc-add k m) ∙ drop-take k m xs

@@ -1,4 +1,5 @@
--- Document 01, "Journal program", with kind 3 of document 02, R-3, and kind 4 of R-7: one record, the line that it writes, and the station after it.
+-- Document 01, "Journal program", with kind 3 of document 02, R-3, and kind 4 of R-7: one record, the line that it writes, and the
+-- station after it.
 use mathlib.Core.Bool.{Bool, true, false, cond, _&&_, _||_}
 use mathlib.Core.List.{List, [], _∷_, _++_}
 use Prim.Native.Nat.{ℕ, _+_}

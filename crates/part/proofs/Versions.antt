@@ -2,18 +2,19 @@
 use mathlib.Core.Path.{_≡_, refl, sym, _∙_, ap, subst}
 use mathlib.Core.Bool.{Bool, true, false, cond, not, _&&_, _||_}
 use mathlib.Core.List.{List, [], _∷_, _++_, append-nil, List·Memᴰ, List·Memᴰ·head, List·Memᴰ·tail}
-use Prim.Native.Nat.{ℕ, zero, suc, _+_, _*_, _≤_, _<_}
+use Prim.Native.Nat.{ℕ, _+_, _-_, _*_, _≤_, _<_}
 use native.Mathlib.Decide.{decLe}
 use native.Mathlib.Omega.{arith}
 use lib.Dec.{eqb, leb}
 use lib.ListN.{length, take, drop, length-append, length-take, length-drop, take-append-drop, drop-of-length-le}
-use lib.Seq.{length-take-le, take-all, take-at, drop-at, take-take, take-nil}
+use lib.Seq.{length-take-le, take-all, take-at, drop-at, take-take}
 use borrow.Author.Tests.{le-leb, leb-true}
 use Rattle.codes.specs.Code.{word}
 use Rattle.codes.specs.Number.{numberAt, valueOr, signedOf}
 use Rattle.codes.proofs.Number.{number-within, numbers-same}
 use Rattle.blocks.specs.Block.{blockLimit}
 use Rattle.drive.specs.Faults.{bufferCodes, properFaults}
+use Rattle.drive.proofs.Proper.{drop-take}
 use Rattle.catalogue.specs.declared.Row.{Row}
 use Rattle.catalogue.specs.Table.{rows, rowAt, elementSize, findOf, offsetOf, parameterBytes}
 use Rattle.catalogue.specs.Element.{elementPlace, elementOf, freshOf, everyRow}
@@ -28,17 +29,12 @@ use Rattle.versions.proofs.Given.{restored-length}
 use Rattle.versions.proofs.FitLaws.{decEq, Inside, rows-inside, inside-rows, restored-inside, taken-fits}
 use Rattle.versions.proofs.Inner.{SameElements, taken-alike}
 use Rattle.versions.proofs.Laws.{settings-alike, restored-as-kept}
-use Rattle.part.specs.Layout.{stateAt, effectiveAt, lengthAt, responseAt, versionsAt, partSize, waitingLength, responseRoom, waiting, versions, withVersion, withSettings}
+use Rattle.part.specs.Layout.{stateAt, effectiveAt, lengthAt, responseAt, versionsAt, partSize, waitingLength, responseRoom, waiting, middle, versions, withVersion, withSettings}
 use Rattle.part.specs.Record.{stateOf, faultsOf, driveOf}
 use Rattle.part.specs.WellFormed.{isState, limitsFit, fixedFit, waitingFits, unusedFit, wellFormed}
 use Rattle.part.proofs.Rule.{form-of, form-is}
 use Rattle.part.proofs.Kept.{tested-safe, limits-same, fixed-same, same-asked}
 use Rattle.part.proofs.Laws.{drop-later, same-waits, same-unused, same-versions}
-
-drop-take : (n m : ℕ) (l : List ℕ) → drop n (take (n + m) l) ≡ take m (drop n l)
-drop-take zero m l = let e : 0 + m ≡ m = omega arith in ap (λ (k : ℕ). take k l) e
-drop-take (suc n) m [] = ap (drop (suc n)) (take-nil (suc n + m)) ∙ sym (take-nil m)
-drop-take (suc n) m (x ∷ l) = let e : suc n + m ≡ suc (n + m) = omega arith in ap (λ (k : ℕ). drop (suc n) (take k (x ∷ l))) e ∙ drop-take n m l
 
 -- w bytes from k on stand before the versions
 abbrev ahead : ℕ → ℕ → Bool
@@ -77,6 +73,13 @@ module _ (p q : List ℕ) (front : take versionsAt q ≡ take versionsAt p) wher
 
   pub front-waiting : waiting q ≡ waiting p
   front-waiting = rw (front-waiting-length, front-room)
+
+  pub front-middle : middle q ≡ middle p
+  front-middle =
+      let e : versionsAt ≡ parameterBytes + (versionsAt - parameterBytes) = omega arith in
+      sym (drop-take parameterBytes (versionsAt - parameterBytes) q)
+      ∙ (ap (drop parameterBytes) (ap (λ (n : ℕ). take n q) (sym e) ∙ (front ∙ ap (λ (n : ℕ). take n p) e))
+      ∙ drop-take parameterBytes (versionsAt - parameterBytes) p)
 
   pub front-settings : settingsOf q ≡ settingsOf p
   front-settings = settings-alike q p front-element

@@ -56,6 +56,10 @@ waiting p = take (waitingLength p) (responseRoom p)
 unfoldable pub withResponse : List ℕ → List ℕ → List ℕ
 withResponse bs p = put (put p lengthAt (length bs ∷ [])) responseAt (bs ++ replicate (blockLimit - length bs) 0)
 
+-- the bytes between the parameters and the versions: there stand the state, the effective setpoint and the waiting response
+abbrev pub middle : List ℕ → List ℕ
+middle p = take (versionsAt - parameterBytes) (drop parameterBytes p)
+
 -- the versions that a part holds; with its settings as they are kept as one more; and with the settings of version n
 abbrev pub versions : List ℕ → List ℕ
 versions p = drop versionsAt p

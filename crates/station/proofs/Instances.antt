@@ -43,11 +43,11 @@ use Rattle.station.specs.Worked.{marksFrame, fetchFrame, workedCalls, me
 use Rattle.station.specs.Laws.{Refuses, WellFormedStation, AtRest, replied, Responded}
 use Rattle.station.proofs.Owes.{isolated-station, keeps-size, keeps-others}
 use Rattle.station.proofs.Cycles.{tells-what-it-did}
-use Rattle.station.proofs.Outcome.{block-numbered}
+use Rattle.station.proofs.Outcome.{block-numbered, fifteen-exactly}
 use Rattle.station.proofs.Refusals.{numbered-by-table, is-refused, empty-reply, reply-stands, foreign-axis, unreadable-block}
 use Rattle.station.proofs.Stays.{fresh-parts, never-ill-formed}
 use Rattle.station.proofs.Sends.{waits-as-ruled, sends-waiting}
-use Rattle.station.proofs.Versioned.{version-taken, versions-stay, version-stands, fresh-uses-none, lists-kept, goes-back}
+use Rattle.station.proofs.Versioned.{version-taken, versions-stay, version-stands, fresh-uses-none, lists-kept, goes-back, kept-can-return}
 use Rattle.station.proofs.Worked.{worked-by-hand, merged-by-hand, whole-by-hand, versions-by-hand}
 use Rattle.station.proofs.Responds.{responds-as-ruled, fetch-follows}
 use Rattle.station.proofs.Merged.{in-turn, write-alone, read-as-none, merges-as-ruled}
@@ -404,3 +404,19 @@ module _ (n : ℕ) (s : List ℕ) (z : numberIn (answer kinds (goBack 16 n) s) �
       × (take 244 (drop 118 (partOf 16 (after kinds (goBack 16 n) s))) ≡ take 244 (drop 118 (partOf 16 s)))
   unfolding parameterBytes rows
   not-rewound r m fixed j h = let w = goes-back 16 n s z in (w .others r m fixed j h, w .rest)
+
+-- KeptCanReturn: of the last farm, to the last version but one that can be
+module _ (s : List ℕ) (size : length s ≡ stationSize) (formed : wellFormed 16 (partOf 16 s) ≡ true) where
+  can-return : lastUsed (versions (partOf 16 s)) ≡ 65534 → isKept 65519 (versions (partOf 16 s)) ≡ true → numberIn (answer kinds (goBack 16 65519) s) ≡ 0
+  can-return last kept = kept-can-return 16 65519 s (lit≤ tt) (lit≤ tt) size formed kept (omega arith)
+
+-- FifteenExactly: one number before the last there is no 15, whatever would be stored; after it there is one where something would be
+module _ (s p : List ℕ) (r : Request) (reads : readable blockLimit request s ≡ true) (is : request .read s ≡ got r []) (axis : r .axis ≡ 16) where
+  not-yet : lastUsed (versions p) ≡ 65534 → outcomeOf 16 s p .number ≡ 15 → ⊥
+  not-yet last e = omega (arith, fifteen-exactly 16 s p r reads is axis .0 e .0)
+
+  then-refused : lastUsed (versions p) ≡ 65535 → (worked r p .stored ≡ 0 → ⊥) → outcomeOf 16 s p .number ≡ 15
+  then-refused last some = fifteen-exactly 16 s p r reads is axis .1 (last, some)
+
+  not-for-nothing : worked r p .stored ≡ 0 → outcomeOf 16 s p .number ≡ 15 → ⊥
+  not-for-nothing none e = fifteen-exactly 16 s p r reads is axis .0 e .1 none

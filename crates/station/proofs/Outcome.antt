@@ -1,11 +1,12 @@
 -- What a block comes to: its number by the tests 10, 11 and 15; a refused block stores nothing; and what is stored is taken as a version.
 use mathlib.Core.Path.{_≡_, refl, sym, _∙_, ap}
 use mathlib.Core.Bool.{Bool, true, false, cond, not, _&&_}
-use mathlib.Core.List.{List}
+use mathlib.Core.List.{List, []}
 use Prim.Native.Nat.{ℕ, _≤_}
+use native.Mathlib.Omega.{arith}
 use lib.Dec.{eqb}
 use lib.ListN.{length}
-use borrow.Author.Tests.{ne-eqb}
+use borrow.Author.Tests.{eq-eqb, ne-eqb, eqb-true, eqb-false}
 use Rattle.codes.specs.Code.{Got, got, bad, readable}
 use Rattle.codes.proofs.Sound.{not-got}
 use Rattle.codes.proofs.Demand.{readable-read}
@@ -18,6 +19,7 @@ use Rattle.blocks.specs.Page.{RequestFits}
 use Rattle.blocks.proofs.Sound.{request-sound}
 use Rattle.blocks.proofs.Page.{request-valid}
 use Rattle.blocks.proofs.Request.{request-header}
+use Rattle.versions.specs.Layout.{lastUsed}
 use Rattle.versions.specs.Keep.{taken}
 use Rattle.part.specs.Layout.{partSize, withResponse, versions, usedUp}
 use Rattle.part.proofs.Held.{readable-short}
@@ -25,7 +27,7 @@ use Rattle.part.proofs.Laws.{response-versions, response-taken}
 use Rattle.access.specs.Work.{worked, Outcome, refused, exhausts, exhaustsIn, admittedIf, outcomeOf}
 use Rattle.access.proofs.Answers.{answer-readable}
 use Rattle.access.proofs.Keeps.{versions-follow}
-use Rattle.station.specs.Laws.{BlockNumbered}
+use Rattle.station.specs.Laws.{BlockNumbered, FifteenExactly}
 use Rattle.station.proofs.Tests.{by-test}
 
 -- what a request comes to that is not refused
@@ -98,3 +100,17 @@ module _ (k : ℕ) (s p : List ℕ) where
 
 pub block-numbered : BlockNumbered
 block-numbered = outcome-number
+
+-- both tests hold where they give 15
+both-hold : (up none : Bool) → _≡_ {A = ℕ} (cond (up && not none) 15 0) 15 → (up ≡ true) × (none ≡ false)
+both-hold true false e = (refl, refl)
+both-hold true true e = absurd (omega arith)
+both-hold false none e = absurd (omega arith)
+
+pub fifteen-exactly : FifteenExactly
+fifteen-exactly k s p r reads is axis =
+    let named : headerOf s .axis ≡ k = ap (λ (x : Header). x .axis) (request-header s r [] is) ∙ axis in
+    let told : outcomeOf k s p .number ≡ cond (exhausts r p) 15 0 = outcome-number k s p ∙ rw (reads, eq-eqb (headerOf s .axis) k named, is) in (
+      λ e. let two = both-hold (usedUp p) (eqb (worked r p .stored) 0) (sym told ∙ e) in (eqb-true (lastUsed (versions p)) 65535 (two .0), eqb-false (worked r p .stored) 0 (two .1)),
+      λ b. told ∙ rw (eq-eqb (lastUsed (versions p)) 65535 (b .0), ne-eqb (worked r p .stored) 0 (b .1)),
+    )

@@ -1,14 +1,13 @@
 -- The laws of versions on a station, from what every kind of call owes; then those of a fresh station, a list and a going back.
 use mathlib.Core.Path.{_≡_, refl, sym, ap, subst, _∙_}
-use mathlib.Core.Bool.{Bool, true, false, cond, not, and-eq-true-iff}
+use mathlib.Core.Bool.{Bool, true, false, cond, not, _&&_, _||_, and-eq-true-iff}
 use mathlib.Core.List.{List, [], _∷_}
 use mathlib.Core.Logic.{_⊎_, inl, inr, _↔_}
 use Prim.Native.Nat.{ℕ, zero, suc, _+_, _-_, _*_, _≤_, _<_}
 use native.Mathlib.Numerals.{add-one}
 use native.Mathlib.Omega.{arith}
 use lib.Dec.{eqb, leb}
-use lib.ListN.{length, take, drop, length-drop}
-use lib.Seq.{length-take-le, take-add, drop-at}
+use lib.ListN.{length, take, length-drop}
 use borrow.Author.Tests.{eqb-true, eqb-false, eq-eqb, ne-eqb, leb-true, le-leb}
 use Rattle.catalogue.specs.Table.{parameterBytes}
 use Rattle.catalogue.specs.Element.{elementOf}
@@ -16,25 +15,24 @@ use Rattle.versions.specs.Layout.{versionBytes, lastUsed, keptCount, oldest}
 use Rattle.versions.specs.Keep.{taken}
 use Rattle.versions.specs.Version.{settingsOf, versionOf, isKept}
 use Rattle.versions.proofs.Taken.{taken-last}
-use Rattle.versions.proofs.Laws.{version-taken as taken-settings, version-kept}
-use Rattle.part.specs.Layout.{versionsAt, partSize, versions, withVersion, withSettings}
+use Rattle.versions.proofs.Laws.{version-taken as taken-settings, version-kept, numbers-rise}
+use Rattle.part.specs.Layout.{versionsAt, partSize, middle, versions, withVersion, withSettings}
 use Rattle.part.specs.WellFormed.{wellFormed}
 use Rattle.part.proofs.FreshPart.{fresh-last as part-uses-none}
-use Rattle.part.proofs.Versions.{front-element, front-settings, version-length, version-front, settings-length, settings-beyond, settings-others, settings-back}
-use Rattle.access.specs.Laws.{between}
+use Rattle.part.proofs.Versions.{front-element, front-middle, front-settings, version-front, settings-beyond, settings-others, settings-back}
 use Rattle.station.specs.declared.Listed.{Listed}
 use Rattle.station.specs.Parts.{farms, stationSize, partOf, stationRefusal}
 use Rattle.station.specs.Versions.{refusedList, listAnswer}
 use Rattle.station.specs.Runs.{runEnd}
 use Rattle.station.specs.Isolation.{answer, after, machine}
 use Rattle.station.specs.Calls.{Call, list, goBack, Answer, toCycle, toFrame, toList, toReturn, numberIn, storedIn, kindOf, owner, kinds}
-use Rattle.station.specs.Laws.{versionsOf, Took, VersionTaken, VersionsStay, VersionStands, FreshUsesNone, ListsKept, GoesBack}
+use Rattle.station.specs.Laws.{versionsOf, Took, VersionTaken, VersionsStay, VersionStands, FreshUsesNone, ListsKept, GoesBack, KeptCanReturn}
 use Rattle.station.proofs.Tests.{one-of}
 use Rattle.station.proofs.Windows.{length-window}
 use Rattle.station.proofs.Isolation.{Right, right, fine, took-answer, gave-answer, fits, length-after, own, other}
 use Rattle.station.proofs.VersionsOwes.{returned, return-number}
 use Rattle.station.proofs.Owes.{owes, sized}
-use Rattle.station.proofs.Refusals.{was-done}
+use Rattle.station.proofs.Refusals.{was-done, numbered-by-table}
 use Rattle.station.proofs.Stays.{fresh-parts}
 
 -- no number is wider than two bytes
@@ -169,12 +167,6 @@ list-done : (formed : Bool) (a : Listed) → cond (not formed) (refusedList 2) a
 list-done true a z = refl
 list-done false a z = absurd (omega arith)
 
-kept-exactly : (n : ℕ) (v : List ℕ) → (isKept n v ≡ true) ↔ ((oldest v ≤ n) × (n < oldest v + keptCount v))
-kept-exactly n v = (
-  λ kept. let two = and-eq-true-iff (leb (oldest v) n) (leb n (lastUsed v)) .0 kept in (leb-true (oldest v) n (two .0), omega (arith, leb-true n (lastUsed v) (two .1))),
-  λ two. and-eq-true-iff (leb (oldest v) n) (leb n (lastUsed v)) .1 (le-leb (oldest v) n (two .0), le-leb n (lastUsed v) (omega (arith, two .1))),
-)
-
 pub lists-kept : ListsKept
 unfolding listedIn listAnswer
 lists-kept k s a e z n =
@@ -182,14 +174,7 @@ lists-kept k s a e z n =
     let done = was-done (list k) s (ap numberIn e ∙ z) in
     let is : a ≡ record { oldest = oldest (versions p); kept = keptCount (versions p); number = 0 } =
     ap listedIn (sym e ∙ took-answer kinds (list k) s (fine (done .0))) ∙ list-done (wellFormed k p) _ (done .1) in
-    subst (λ (b : Listed). (isKept n (versions p) ≡ true) ↔ ((b .oldest ≤ n) × (n < b .oldest + b .kept))) (sym is) (kept-exactly n (versions p))
-
--- what stands before the versions
-between-front : (p : List ℕ) → parameterBytes ≤ length p → between p ≡ drop parameterBytes (take versionsAt p)
-between-front p room =
-    let e : parameterBytes + (versionsAt - parameterBytes) ≡ versionsAt = omega arith in
-    sym (ap (λ (n : ℕ). drop parameterBytes (take n p)) (sym e) ∙ (ap (drop parameterBytes) (take-add parameterBytes (versionsAt - parameterBytes) p)
-    ∙ drop-at (take parameterBytes p) _ parameterBytes (length-take-le parameterBytes p room)))
+    subst (λ (b : Listed). (isKept n (versions p) ≡ true) ↔ ((b .oldest ≤ n) × (n < b .oldest + b .kept))) (sym is) (numbers-rise (versions p) .exactly n)
 
 pub goes-back : GoesBack
 goes-back k n s z =
@@ -205,8 +190,16 @@ goes-back k n s z =
       settings = ap settingsOf left ∙ (front-settings q (withVersion q) (version-front q) ∙ settings-back n p long);
       others = λ r m fixed j h. ap (elementOf r j) left ∙ (front-element q (withVersion q) (version-front q) r m j h ∙ settings-others n p r m fixed j h);
       rest =
-          ap between left
-          ∙ (between-front (withVersion q) (omega (arith, version-length q, settings-length n p, long))
-          ∙ (ap (drop parameterBytes) (version-front q)
-          ∙ (sym (between-front q (omega (arith, settings-length n p, long))) ∙ ap (take (versionsAt - parameterBytes)) (settings-beyond n p))));
+          ap middle left
+          ∙ (front-middle q (withVersion q) (version-front q) ∙ ap (take (versionsAt - parameterBytes)) (settings-beyond n p));
     }
+
+-- with every test passed, no number is left
+all-passed : (low high sized formed kept up : Bool) → low ≡ true → high ≡ true → sized ≡ true → formed ≡ true → kept ≡ true → up ≡ false → _≡_ {A = ℕ} (cond (not (low && high)) 1 (cond (not sized || not formed) 2 (cond (not kept) 14 (cond up 15 0)))) 0
+all-passed low high sized formed kept up a b c d e f = rw (a, b, c, d, e, f)
+
+pub kept-can-return : KeptCanReturn
+kept-can-return k n s low high size formed kept less =
+    numbered-by-table (goBack k n) s
+    ∙ all-passed (leb 1 k) (leb k farms) (eqb (length s) stationSize) (wellFormed k (partOf k s)) (isKept n (versionsOf k s)) (eqb (lastUsed (versionsOf k s)) 65535)
+    (le-leb 1 k low) (le-leb k farms high) (eq-eqb (length s) stationSize size) formed kept (ne-eqb (lastUsed (versionsOf k s)) 65535 (λ e. omega arith))

@@ -16,7 +16,7 @@ use Rattle.blocks.specs.Response.{responseBlocks, hasError, errorsFit, response
 use Rattle.drive.specs.Cycle.{wordOf, wordUsed, setpointUsed, acknowledges, afterAck, afterCode, stateAfter, effectiveOf, nearOf, fastOf, statusOf, entersS4, cycleOf}
 use Rattle.catalogue.specs.Table.{rows, parameterBytes, findOf, offsetOf}
 use Rattle.catalogue.specs.Element.{inside, elementOf, putElement}
-use Rattle.versions.specs.Layout.{columns, settings, lastAt, lastUsed}
+use Rattle.versions.specs.Layout.{columns, settingCount, lastAt, lastUsed}
 use Rattle.versions.specs.Fit.{columnsFit, versionsFit}
 use Rattle.versions.specs.Keep.{taken, restored, filled, takenWithin, filledWithin, restoredWithin}
 use Rattle.part.specs.Layout.{partSize, withResponse}
@@ -61,11 +61,11 @@ abbrev calls : List Call
 calls = map (λ w. w .call) workedCalls
 
 answers-computed : runAnswers (machine kinds) calls (freshParts farms) ≡ map (λ w. w .answer) workedCalls
-unfolding readable numberAt put formatSize valueSize changeBlockFits responseBlockFits valuesOf valuesSize block address requestBlocks request responseBlocks hasError errorsFit response wordOf wordUsed setpointUsed acknowledges afterAck afterCode stateAfter effectiveOf nearOf fastOf statusOf entersS4 cycleOf rows parameterBytes findOf offsetOf inside elementOf putElement columns settings lastAt lastUsed columnsFit versionsFit taken restored filled takenWithin filledWithin restoredWithin withResponse stateOf driveOf putDrive freshFront freshPart limitsFit fixedFit waitingFits unusedFit wellFormed checked readBlock changeOne worked outcomeOf window withWindow stationRefusal frameRefusal frameAnswer frameReply framePart exchangeDone cycleRefusal cycleAnswer cyclePart listAnswer returnRefusal returnAnswer returnPart runAnswers answer after
+unfolding readable numberAt put formatSize valueSize changeBlockFits responseBlockFits valuesOf valuesSize block address requestBlocks request responseBlocks hasError errorsFit response wordOf wordUsed setpointUsed acknowledges afterAck afterCode stateAfter effectiveOf nearOf fastOf statusOf entersS4 cycleOf rows parameterBytes findOf offsetOf inside elementOf putElement columns settingCount lastAt lastUsed columnsFit versionsFit taken restored filled takenWithin filledWithin restoredWithin withResponse stateOf driveOf putDrive freshFront freshPart limitsFit fixedFit waitingFits unusedFit wellFormed checked readBlock changeOne worked outcomeOf window withWindow stationRefusal frameRefusal frameAnswer frameReply framePart exchangeDone cycleRefusal cycleAnswer cyclePart listAnswer returnRefusal returnAnswer returnPart runAnswers answer after
 answers-computed = refl
 
 end-computed : same (runEnd (machine kinds) calls (freshParts farms)) (withPart 1 endedPart (freshParts farms)) ≡ true
-unfolding readable numberAt put formatSize valueSize changeBlockFits responseBlockFits valuesOf valuesSize block address requestBlocks request responseBlocks hasError errorsFit response wordOf wordUsed setpointUsed acknowledges afterAck afterCode stateAfter effectiveOf nearOf fastOf statusOf entersS4 cycleOf rows parameterBytes findOf offsetOf inside elementOf putElement columns settings lastAt lastUsed columnsFit versionsFit taken restored filled takenWithin filledWithin restoredWithin withResponse stateOf driveOf putDrive freshFront freshPart limitsFit fixedFit waitingFits unusedFit wellFormed checked readBlock changeOne worked outcomeOf window withWindow stationRefusal frameRefusal frameAnswer frameReply framePart exchangeDone cycleRefusal cycleAnswer cyclePart listAnswer returnRefusal returnAnswer returnPart runEnd answer after
+unfolding readable numberAt put formatSize valueSize changeBlockFits responseBlockFits valuesOf valuesSize block address requestBlocks request responseBlocks hasError errorsFit response wordOf wordUsed setpointUsed acknowledges afterAck afterCode stateAfter effectiveOf nearOf fastOf statusOf entersS4 cycleOf rows parameterBytes findOf offsetOf inside elementOf putElement columns settingCount lastAt lastUsed columnsFit versionsFit taken restored filled takenWithin filledWithin restoredWithin withResponse stateOf driveOf putDrive freshFront freshPart limitsFit fixedFit waitingFits unusedFit wellFormed checked readBlock changeOne worked outcomeOf window withWindow stationRefusal frameRefusal frameAnswer frameReply framePart exchangeDone cycleRefusal cycleAnswer cyclePart listAnswer returnRefusal returnAnswer returnPart runEnd answer after
 end-computed = refl
 
 marks-computed : wordsAt 4 endedPart (offsetOf 30001) ≡ 0 ∷ 0 ∷ 0 ∷ 0 ∷ []
@@ -100,33 +100,33 @@ abbrev merged : List Call
 merged = map (λ w. w .call) mergedCalls
 
 merged-computed : runAnswers (machine kinds) merged (freshParts farms) ≡ map (λ w. w .answer) mergedCalls
-unfolding readable numberAt put formatSize valueSize changeBlockFits responseBlockFits valuesOf valuesSize block address requestBlocks request responseBlocks hasError errorsFit response wordOf wordUsed setpointUsed acknowledges afterAck afterCode stateAfter effectiveOf nearOf fastOf statusOf entersS4 cycleOf rows parameterBytes findOf offsetOf inside elementOf putElement columns settings lastAt lastUsed columnsFit versionsFit taken restored filled takenWithin filledWithin restoredWithin withResponse stateOf driveOf putDrive freshFront freshPart limitsFit fixedFit waitingFits unusedFit wellFormed checked readBlock changeOne worked outcomeOf window withWindow stationRefusal frameRefusal frameAnswer frameReply framePart exchangeDone cycleRefusal cycleAnswer cyclePart listAnswer returnRefusal returnAnswer returnPart runAnswers answer after
+unfolding readable numberAt put formatSize valueSize changeBlockFits responseBlockFits valuesOf valuesSize block address requestBlocks request responseBlocks hasError errorsFit response wordOf wordUsed setpointUsed acknowledges afterAck afterCode stateAfter effectiveOf nearOf fastOf statusOf entersS4 cycleOf rows parameterBytes findOf offsetOf inside elementOf putElement columns settingCount lastAt lastUsed columnsFit versionsFit taken restored filled takenWithin filledWithin restoredWithin withResponse stateOf driveOf putDrive freshFront freshPart limitsFit fixedFit waitingFits unusedFit wellFormed checked readBlock changeOne worked outcomeOf window withWindow stationRefusal frameRefusal frameAnswer frameReply framePart exchangeDone cycleRefusal cycleAnswer cyclePart listAnswer returnRefusal returnAnswer returnPart runAnswers answer after
 merged-computed = refl
 
 merged-end : same (partOf 1 (runEnd (machine kinds) merged (freshParts farms))) freshPart ≡ true
-unfolding readable numberAt put formatSize valueSize changeBlockFits responseBlockFits valuesOf valuesSize block address requestBlocks request responseBlocks hasError errorsFit response wordOf wordUsed setpointUsed acknowledges afterAck afterCode stateAfter effectiveOf nearOf fastOf statusOf entersS4 cycleOf rows parameterBytes findOf offsetOf inside elementOf putElement columns settings lastAt lastUsed columnsFit versionsFit taken restored filled takenWithin filledWithin restoredWithin withResponse stateOf driveOf putDrive freshFront freshPart limitsFit fixedFit waitingFits unusedFit wellFormed checked readBlock changeOne worked outcomeOf window withWindow stationRefusal frameRefusal frameAnswer frameReply framePart exchangeDone cycleRefusal cycleAnswer cyclePart listAnswer returnRefusal returnAnswer returnPart runEnd answer after
+unfolding readable numberAt put formatSize valueSize changeBlockFits responseBlockFits valuesOf valuesSize block address requestBlocks request responseBlocks hasError errorsFit response wordOf wordUsed setpointUsed acknowledges afterAck afterCode stateAfter effectiveOf nearOf fastOf statusOf entersS4 cycleOf rows parameterBytes findOf offsetOf inside elementOf putElement columns settingCount lastAt lastUsed columnsFit versionsFit taken restored filled takenWithin filledWithin restoredWithin withResponse stateOf driveOf putDrive freshFront freshPart limitsFit fixedFit waitingFits unusedFit wellFormed checked readBlock changeOne worked outcomeOf window withWindow stationRefusal frameRefusal frameAnswer frameReply framePart exchangeDone cycleRefusal cycleAnswer cyclePart listAnswer returnRefusal returnAnswer returnPart runEnd answer after
 merged-end = refl
 
 abbrev wholes : List Call
 wholes = map (λ w. w .call) wholeCalls
 
 wholes-computed : runAnswers (machine kinds) wholes (freshParts farms) ≡ map (λ w. w .answer) wholeCalls
-unfolding readable numberAt put formatSize valueSize changeBlockFits responseBlockFits valuesOf valuesSize block address requestBlocks request responseBlocks hasError errorsFit response wordOf wordUsed setpointUsed acknowledges afterAck afterCode stateAfter effectiveOf nearOf fastOf statusOf entersS4 cycleOf rows parameterBytes findOf offsetOf inside elementOf putElement columns settings lastAt lastUsed columnsFit versionsFit taken restored filled takenWithin filledWithin restoredWithin withResponse stateOf driveOf putDrive freshFront freshPart limitsFit fixedFit waitingFits unusedFit wellFormed checked readBlock changeOne worked outcomeOf window withWindow stationRefusal frameRefusal frameAnswer frameReply framePart exchangeDone cycleRefusal cycleAnswer cyclePart listAnswer returnRefusal returnAnswer returnPart runAnswers answer after
+unfolding readable numberAt put formatSize valueSize changeBlockFits responseBlockFits valuesOf valuesSize block address requestBlocks request responseBlocks hasError errorsFit response wordOf wordUsed setpointUsed acknowledges afterAck afterCode stateAfter effectiveOf nearOf fastOf statusOf entersS4 cycleOf rows parameterBytes findOf offsetOf inside elementOf putElement columns settingCount lastAt lastUsed columnsFit versionsFit taken restored filled takenWithin filledWithin restoredWithin withResponse stateOf driveOf putDrive freshFront freshPart limitsFit fixedFit waitingFits unusedFit wellFormed checked readBlock changeOne worked outcomeOf window withWindow stationRefusal frameRefusal frameAnswer frameReply framePart exchangeDone cycleRefusal cycleAnswer cyclePart listAnswer returnRefusal returnAnswer returnPart runAnswers answer after
 wholes-computed = refl
 
 wholes-end : same (partOf 1 (runEnd (machine kinds) wholes (freshParts farms))) wholePart ≡ true
-unfolding readable numberAt put formatSize valueSize changeBlockFits responseBlockFits valuesOf valuesSize block address requestBlocks request responseBlocks hasError errorsFit response wordOf wordUsed setpointUsed acknowledges afterAck afterCode stateAfter effectiveOf nearOf fastOf statusOf entersS4 cycleOf rows parameterBytes findOf offsetOf inside elementOf putElement columns settings lastAt lastUsed columnsFit versionsFit taken restored filled takenWithin filledWithin restoredWithin withResponse stateOf driveOf putDrive freshFront freshPart limitsFit fixedFit waitingFits unusedFit wellFormed checked readBlock changeOne worked outcomeOf window withWindow stationRefusal frameRefusal frameAnswer frameReply framePart exchangeDone cycleRefusal cycleAnswer cyclePart listAnswer returnRefusal returnAnswer returnPart runEnd answer after
+unfolding readable numberAt put formatSize valueSize changeBlockFits responseBlockFits valuesOf valuesSize block address requestBlocks request responseBlocks hasError errorsFit response wordOf wordUsed setpointUsed acknowledges afterAck afterCode stateAfter effectiveOf nearOf fastOf statusOf entersS4 cycleOf rows parameterBytes findOf offsetOf inside elementOf putElement columns settingCount lastAt lastUsed columnsFit versionsFit taken restored filled takenWithin filledWithin restoredWithin withResponse stateOf driveOf putDrive freshFront freshPart limitsFit fixedFit waitingFits unusedFit wellFormed checked readBlock changeOne worked outcomeOf window withWindow stationRefusal frameRefusal frameAnswer frameReply framePart exchangeDone cycleRefusal cycleAnswer cyclePart listAnswer returnRefusal returnAnswer returnPart runEnd answer after
 wholes-end = refl
 
 abbrev versioned : List Call
 versioned = map (λ w. w .call) versionCalls
 
 versions-computed : runAnswers (machine kinds) versioned (freshParts farms) ≡ map (λ w. w .answer) versionCalls
-unfolding readable numberAt put formatSize valueSize changeBlockFits responseBlockFits valuesOf valuesSize block address requestBlocks request responseBlocks hasError errorsFit response wordOf wordUsed setpointUsed acknowledges afterAck afterCode stateAfter effectiveOf nearOf fastOf statusOf entersS4 cycleOf rows parameterBytes findOf offsetOf inside elementOf putElement columns settings lastAt lastUsed columnsFit versionsFit taken restored filled takenWithin filledWithin restoredWithin withResponse stateOf driveOf putDrive freshFront freshPart limitsFit fixedFit waitingFits unusedFit wellFormed checked readBlock changeOne worked outcomeOf window withWindow stationRefusal frameRefusal frameAnswer frameReply framePart exchangeDone cycleRefusal cycleAnswer cyclePart listAnswer returnRefusal returnAnswer returnPart runAnswers answer after
+unfolding readable numberAt put formatSize valueSize changeBlockFits responseBlockFits valuesOf valuesSize block address requestBlocks request responseBlocks hasError errorsFit response wordOf wordUsed setpointUsed acknowledges afterAck afterCode stateAfter effectiveOf nearOf fastOf statusOf entersS4 cycleOf rows parameterBytes findOf offsetOf inside elementOf putElement columns settingCount lastAt lastUsed columnsFit versionsFit taken restored filled takenWithin filledWithin restoredWithin withResponse stateOf driveOf putDrive freshFront freshPart limitsFit fixedFit waitingFits unusedFit wellFormed checked readBlock changeOne worked outcomeOf window withWindow stationRefusal frameRefusal frameAnswer frameReply framePart exchangeDone cycleRefusal cycleAnswer cyclePart listAnswer returnRefusal returnAnswer returnPart runAnswers answer after
 versions-computed = refl
 
 versions-end : same (partOf 1 (runEnd (machine kinds) versioned (freshParts farms))) versionPart ≡ true
-unfolding readable numberAt put formatSize valueSize changeBlockFits responseBlockFits valuesOf valuesSize block address requestBlocks request responseBlocks hasError errorsFit response wordOf wordUsed setpointUsed acknowledges afterAck afterCode stateAfter effectiveOf nearOf fastOf statusOf entersS4 cycleOf rows parameterBytes findOf offsetOf inside elementOf putElement columns settings lastAt lastUsed columnsFit versionsFit taken restored filled takenWithin filledWithin restoredWithin withResponse stateOf driveOf putDrive freshFront freshPart limitsFit fixedFit waitingFits unusedFit wellFormed checked readBlock changeOne worked outcomeOf window withWindow stationRefusal frameRefusal frameAnswer frameReply framePart exchangeDone cycleRefusal cycleAnswer cyclePart listAnswer returnRefusal returnAnswer returnPart runEnd answer after
+unfolding readable numberAt put formatSize valueSize changeBlockFits responseBlockFits valuesOf valuesSize block address requestBlocks request responseBlocks hasError errorsFit response wordOf wordUsed setpointUsed acknowledges afterAck afterCode stateAfter effectiveOf nearOf fastOf statusOf entersS4 cycleOf rows parameterBytes findOf offsetOf inside elementOf putElement columns settingCount lastAt lastUsed columnsFit versionsFit taken restored filled takenWithin filledWithin restoredWithin withResponse stateOf driveOf putDrive freshFront freshPart limitsFit fixedFit waitingFits unusedFit wellFormed checked readBlock changeOne worked outcomeOf window withWindow stationRefusal frameRefusal frameAnswer frameReply framePart exchangeDone cycleRefusal cycleAnswer cyclePart listAnswer returnRefusal returnAnswer returnPart runEnd answer after
 versions-end = refl
 
 -- computed on fresh parts, and so on every fresh station

@@ -1,5 +1,5 @@
--- Document 01, "The box and its edges", and document 02, R-3 and R-7: the kinds of call that a station has, each said in one place: whose a call
--- is, how it is tested and refused, and what it answers and leaves on its owner's part.
+-- Document 01, "The box and its edges", and document 02, R-3 and R-7: the kinds of call that a station has, each said in one place:
+-- whose a call is, how it is tested and refused, and what it answers and leaves on its owner's part.
 use mathlib.Core.Bool.{Bool, true, false}
 use mathlib.Core.List.{List}
 use Prim.Native.Nat.{ℕ}

@@ -21,10 +21,9 @@ use Rattle.catalogue.specs.Table.{rows}
 use Rattle.catalogue.specs.Element.{elementOf}
 use Rattle.versions.specs.Layout.{isSetting, lastUsed}
 use Rattle.versions.specs.Version.{settingsOf, versionOf, isKept}
-use Rattle.part.specs.Layout.{partSize, waitingLength, waiting, withResponse, versions}
+use Rattle.part.specs.Layout.{partSize, waitingLength, waiting, withResponse, middle, versions}
 use Rattle.part.specs.Record.{driveOf}
 use Rattle.access.specs.Work.{worked, exhausts, outcomeOf, exhaustsIn}
-use Rattle.access.specs.Laws.{between}
 use Rattle.part.specs.Fresh.{freshPart}
 use Rattle.part.specs.WellFormed.{wellFormed}
 use Rattle.station.specs.Parts.{farms, stationSize, partOf, freshStation}
@@ -70,6 +69,12 @@ BlockNumbered =
     ≡ cond (not (readable blockLimit request s)) 10
     (cond (not (eqb (headerOf s .axis) k)) 11
     (cond (exhaustsIn p (request .read s)) 15 0))
+
+-- R-7: 15 is the number of a block of the caller's axis exactly where the last number is used and something would be stored
+abbrev pub FifteenExactly : Type 0
+FifteenExactly =
+    (k : ℕ) (s p : List ℕ) (r : Request) → readable blockLimit request s ≡ true → request .read s ≡ got r [] → r .axis ≡ k
+    → (outcomeOf k s p .number ≡ 15) ↔ ((lastUsed (versions p) ≡ 65535) × (worked r p .stored ≡ 0 → ⊥))
 
 -- a call is refused: its number is not 0, its answer follows from that number, and "the whole station" stays unchanged
 pub record Refuses (c : Call) (s : List ℕ) : Type 0 where
@@ -322,7 +327,14 @@ pub record WentBack (k n : ℕ) (s t : List ℕ) : Type 0 where
   pub others :
       (q : Row) → List·Memᴰ q rows → isSetting q ≡ false → (j : ℕ) → j < q .count
       → elementOf q j (partOf k t) ≡ elementOf q j (partOf k s)
-  pub rest : between (partOf k t) ≡ between (partOf k s)
+  pub rest : middle (partOf k t) ≡ middle (partOf k s)
 
 abbrev pub GoesBack : Type 0
 GoesBack = (k n : ℕ) (s : List ℕ) → numberIn (answer kinds (goBack k n) s) ≡ 0 → WentBack k n s (after kinds (goBack k n) s)
+
+-- and every version that is kept can be gone back to while a number is left
+abbrev pub KeptCanReturn : Type 0
+KeptCanReturn =
+    (k n : ℕ) (s : List ℕ) → 1 ≤ k → k ≤ farms → length s ≡ stationSize → wellFormed k (partOf k s) ≡ true
+    → isKept n (versionsOf k s) ≡ true → lastUsed (versionsOf k s) < 65535
+    → numberIn (answer kinds (goBack k n) s) ≡ 0

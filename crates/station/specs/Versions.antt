@@ -1,10 +1,10 @@
--- Document 02, R-7, "Farms can list the kept numbers, oldest first, and go back to one": a list and a going back of farm k on the part of its
--- axis.
+-- Document 02, R-7, "Farms can list the kept numbers, oldest first, and go back to one": a list and a going back of farm k on the part
+-- of its axis.
 use mathlib.Core.Bool.{cond, not}
 use mathlib.Core.List.{List}
 use Prim.Native.Nat.{ℕ, _+_}
 use lib.Dec.{eqb}
-use Rattle.versions.specs.Layout.{settings, lastUsed, keptCount, oldest}
+use Rattle.versions.specs.Layout.{settingCount, lastUsed, keptCount, oldest}
 use Rattle.versions.specs.Version.{isKept}
 use Rattle.part.specs.Layout.{versions, withVersion, withSettings, usedUp}
 use Rattle.part.specs.WellFormed.{wellFormed}
@@ -38,7 +38,7 @@ returnRefusal k n p = cond (not (wellFormed k p)) 2 (returnTests n p)
 unfoldable pub returnAnswer : ℕ → ℕ → List ℕ → Returned
 returnAnswer k n p =
     let refusal = returnRefusal k n p in
-    cond (eqb refusal 0) (record { stored = settings; version = lastUsed (versions p) + 1; number = 0 }) (refusedReturn refusal)
+    cond (eqb refusal 0) (record { stored = settingCount; version = lastUsed (versions p) + 1; number = 0 }) (refusedReturn refusal)
 
 unfoldable pub returnPart : ℕ → ℕ → List ℕ → List ℕ
 returnPart k n p = cond (eqb (returnRefusal k n p) 0) (withVersion (withSettings n p)) p

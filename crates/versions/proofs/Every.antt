@@ -1,6 +1,6 @@
 -- Tests of every number below another: how a loop that combines them goes on, and runs of runs.
 use mathlib.Core.Path.{_≡_, refl, sym, _∙_, ap}
-use mathlib.Core.Bool.{Bool, true, false, _&&_, and-true, and-eq-true-iff}
+use mathlib.Core.Bool.{Bool, true, false, _&&_, and-true}
 use mathlib.Core.List.{List, [], _∷_, List·Memᴰ, List·Memᴰ·not-nil, List·Memᴰ·cases-cons}
 use mathlib.Core.Logic.{_⊎_, inl, inr}
 use Prim.Native.Nat.{ℕ, zero, suc, _+_, _*_}
@@ -11,6 +11,7 @@ use lib.Bits.{bitOr, or-zero-l, or-add-and, and-le-r}
 use lib.Dec.{eqb}
 use borrow.Author.Tests.{ne-eqb, eqb-true, eqb-false}
 use borrow.Table.Steps.{cases}
+use Rattle.codes.proofs.Demand.{both}
 use Rattle.catalogue.specs.Element.{everyElement}
 use Rattle.versions.specs.Layout.{Columns}
 use Rattle.versions.specs.Fit.{everyColumns}
@@ -43,9 +44,6 @@ every-flat ok w zero = let e : 0 * w ≡ 0 = omega arith in rw e
 every-flat ok w (suc n) =
     let e : suc n * w ≡ n * w + w = omega (arith, suc-mul n w) in
     rw (e, every-flat ok w n) (sym (every-append ok (n * w) w))
-
-pub both : (a b : Bool) → (a && b) ≡ true → (a ≡ true) × (b ≡ true)
-both a b = and-eq-true-iff a b .0
 
 pub columns-at : (ok : Columns → Bool) (cs : List Columns) → everyColumns ok cs ≡ true → (q : Columns) → List·Memᴰ q cs → ok q ≡ true
 columns-at ok [] e q m = absurd (List·Memᴰ·not-nil m)

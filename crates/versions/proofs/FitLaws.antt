@@ -21,7 +21,8 @@ use Rattle.versions.specs.Low.{lowBytes}
 use Rattle.versions.specs.Layout.{Columns, columns, columnsFrom, columnsOf, isSetting, slots, lastAt, versionBytes, settingIn, lastUsed, slotOf}
 use Rattle.versions.specs.Fit.{everyColumns, columnsFit, versionsFit}
 use Rattle.versions.specs.Keep.{taken, restored, fillSlots, filled}
-use Rattle.versions.proofs.Every.{both, columns-at}
+use Rattle.codes.proofs.Demand.{both}
+use Rattle.versions.proofs.Every.{columns-at}
 use Rattle.versions.proofs.Fits.{columns-each}
 use Rattle.versions.proofs.Slots.{filled-is, fill-length}
 use Rattle.versions.proofs.Given.{column-row, restored-settings}
@@ -45,7 +46,7 @@ pub record Fitting (v : List ℕ) : Type 0 where
   pub limits : (q : Columns) → List·Memᴰ q columns → (j : ℕ) → j < q .row .count → (s : ℕ) → s < slots → inside (q .row) (settingIn q j s v) ≡ true
 
 module _ (v : List ℕ) where
-  pub fitting-of : versionsFit v ≡ true → Fitting v
+  fitting-of : versionsFit v ≡ true → Fitting v
   unfolding versionsFit
   fitting-of e =
       let two = both (eqb (length v) versionBytes) (everyColumns (columnsFit v) columns) e in
@@ -54,7 +55,7 @@ module _ (v : List ℕ) where
         limits = λ q m j h s k. every-at (λ (t : ℕ). inside (q .row) (settingIn q j t v)) slots s (every-at (λ (i : ℕ). everyElement (λ t. inside (q .row) (settingIn q i t v)) slots) (q .row .count) j (sym (columns-each v (q .row) (q .at)) ∙ columns-at (columnsFit v) columns (two .1) q m) h) k;
       }
 
-  pub fitting-is : Fitting v → versionsFit v ≡ true
+  fitting-is : Fitting v → versionsFit v ≡ true
   unfolding versionsFit
   fitting-is f =
       rw (eq-eqb (length v) versionBytes (f .size))
@@ -65,7 +66,7 @@ abbrev pub Inside : List ℕ → Type 0
 Inside p = (q : Columns) → List·Memᴰ q columns → (j : ℕ) → j < q .row .count → inside (q .row) (elementOf (q .row) j p) ≡ true
 
 -- the test of a part's rows says so: a row that is a setting has its elements inside (part's `limitsFit`)
-abbrev pub rowFits : List ℕ → Row → Bool
+abbrev rowFits : List ℕ → Row → Bool
 rowFits p r = cond (isSetting r) (everyElement (λ i. inside r (elementOf r i p)) (r .count)) true
 
 pub rows-inside : (p : List ℕ) → everyRow (rowFits p) rows ≡ true → Inside p
@@ -121,7 +122,7 @@ taken-fits p v within e = fitting-is (taken p v) (record { size = taken-length p
         go (no y) = ap (inside (q .row)) (taken-kept p v size q m j h s k y) ∙ fitting-of v e .limits q m j h s k
 
 -- slots that all hold a part's settings: each is what was put there
-pub filled-slot : (p v : List ℕ) → length v ≡ versionBytes → (q : Columns) → List·Memᴰ q columns → (j : ℕ) → j < q .row .count → (n : ℕ) → n ≤ slots → (s : ℕ) → s < n → settingIn q j s (fillSlots n p v) ≡ elementOf (q .row) j p
+filled-slot : (p v : List ℕ) → length v ≡ versionBytes → (q : Columns) → List·Memᴰ q columns → (j : ℕ) → j < q .row .count → (n : ℕ) → n ≤ slots → (s : ℕ) → s < n → settingIn q j s (fillSlots n p v) ≡ elementOf (q .row) j p
 filled-slot p v size q m j h zero k s l = absurd (omega arith)
 filled-slot p v size q m j h (suc n) k s l = go (decEq s n) (filled-slot p v size q m j h n (omega arith) s)
   where

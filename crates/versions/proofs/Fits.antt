@@ -17,9 +17,10 @@ use Rattle.catalogue.specs.declared.Kind.the-variants.{U16, I32}
 use Rattle.catalogue.specs.Table.{elementSize, rows}
 use Rattle.catalogue.specs.Element.{inside, everyElement}
 use Rattle.versions.specs.Low.{lowNumber}
-use Rattle.versions.specs.Layout.{Columns, slots, columns, columnsAt, settingIn}
+use Rattle.versions.specs.Layout.{Columns, slots, columns, settingIn}
 use Rattle.versions.specs.Fit.{everyNumber, everyColumns, columnsFit}
 use Rattle.catalogue.proofs.Every.{every-is, every-same, free-inside}
+use Rattle.versions.proofs.Slots.{columnsAt}
 use Rattle.versions.proofs.Every.{every-append, every-flat}
 use Rattle.versions.proofs.Bytewise.{low-small}
 
@@ -51,7 +52,7 @@ module _ (v : List ℕ) (r : Row) (at : ℕ) where
   run = record { row = r; at = at }
 
   -- the columns are one run
-  pub columns-run : columnsFit v run ≡ everyElement (λ k. inside r (here k)) (r .count * slots)
+  columns-run : columnsFit v run ≡ everyElement (λ k. inside r (here k)) (r .count * slots)
   unfolding columnsFit
   columns-run = number-run (elementSize (r .kind)) (inside r) v (r .count * slots) at
 
@@ -64,7 +65,7 @@ module _ (v : List ℕ) (r : Row) (at : ℕ) where
   unfolding inside
   word-inside low high k l h x small = let m : x % 65536 ≡ x = mod-eq-of-lt small in rw (k, l, h, m)
 
-  pub words-run : (low high : ℕ) → r .kind ≡ U16 → r .low ≡ pos low → r .high ≡ pos high → everyElement (λ k. leb low (lowNumber 2 v (at + k * 2)) && leb (lowNumber 2 v (at + k * 2)) high) (r .count * slots) ≡ columnsFit v run
+  words-run : (low high : ℕ) → r .kind ≡ U16 → r .low ≡ pos low → r .high ≡ pos high → everyElement (λ k. leb low (lowNumber 2 v (at + k * 2)) && leb (lowNumber 2 v (at + k * 2)) high) (r .count * slots) ≡ columnsFit v run
   words-run low high kind l h =
       every-same _ (λ (k : ℕ). inside r (here k)) (r .count * slots)
       (λ k below.
@@ -77,7 +78,7 @@ module _ (v : List ℕ) (r : Row) (at : ℕ) where
   unfolding inside
   long-inside k x small = let m : x % 256 ^ 4 ≡ x = mod-eq-of-lt small in rw (k, m)
 
-  pub longs-run : r .kind ≡ I32 → everyElement (λ k. leZ (r .low) (signedOf 4 (lowNumber 4 v (at + k * 4))) && leZ (signedOf 4 (lowNumber 4 v (at + k * 4))) (r .high)) (r .count * slots) ≡ columnsFit v run
+  longs-run : r .kind ≡ I32 → everyElement (λ k. leZ (r .low) (signedOf 4 (lowNumber 4 v (at + k * 4))) && leZ (signedOf 4 (lowNumber 4 v (at + k * 4))) (r .high)) (r .count * slots) ≡ columnsFit v run
   longs-run kind =
       every-same _ (λ (k : ℕ). inside r (here k)) (r .count * slots)
       (λ k below.
@@ -86,18 +87,18 @@ module _ (v : List ℕ) (r : Row) (at : ℕ) where
       ∙ sym columns-run
 
   -- a row of words whose limits leave nothing out takes every word
-  pub free-run : r .kind ≡ U16 → leZ (r .low) (pos 0) ≡ true → leZ (pos 65535) (r .high) ≡ true → columnsFit v run ≡ true
+  free-run : r .kind ≡ U16 → leZ (r .low) (pos 0) ≡ true → leZ (pos 65535) (r .high) ≡ true → columnsFit v run ≡ true
   free-run k low high = columns-run ∙ every-is _ (r .count * slots) (λ i h. free-inside r k low high (here i))
 
 -- the columns of the table: 9900 and 9901 take every word, the others are tested one by one
 module _ (v : List ℕ) where
-  abbrev pub fitsAt : ℕ → Bool
+  abbrev fitsAt : ℕ → Bool
   fitsAt k = columnsFit v (columnsAt k)
 
   third-on : (a b c d e f g : Bool) → a ≡ true → b ≡ true → (a && (b && (c && (d && (e && (f && (g && true))))))) ≡ (c && (d && (e && (f && g))))
   third-on a b c d e f g k l = rw (k, l, and-true g)
 
-  pub all-columns : everyColumns (columnsFit v) columns ≡ (fitsAt 2 && (fitsAt 3 && (fitsAt 4 && (fitsAt 5 && fitsAt 6))))
+  all-columns : everyColumns (columnsFit v) columns ≡ (fitsAt 2 && (fitsAt 3 && (fitsAt 4 && (fitsAt 5 && fitsAt 6))))
   unfolding columns columnsAt rows
   all-columns =
       third-on (fitsAt 0) (fitsAt 1) (fitsAt 2) (fitsAt 3) (fitsAt 4) (fitsAt 5) (fitsAt 6)

@@ -46,11 +46,11 @@ column-row = from-rows 0 rows
 
 -- what each element that is put keeps, going back keeps
 module _ (v : List ℕ) (slot : ℕ) (P : List ℕ → Type 0) (one : (c : Columns) → List·Memᴰ c columns → (i : ℕ) → i < c .row .count → (p : List ℕ) → P p → P (putElement (c .row) i (settingIn c i slot v) p)) where
-  pub keep-given : (c : Columns) → List·Memᴰ c columns → (n : ℕ) → n ≤ c .row .count → (p : List ℕ) → P p → P (giveElements c slot v n p)
+  keep-given : (c : Columns) → List·Memᴰ c columns → (n : ℕ) → n ≤ c .row .count → (p : List ℕ) → P p → P (giveElements c slot v n p)
   keep-given c m zero h p x = x
   keep-given c m (suc n) h p x = one c m n (omega arith) (giveElements c slot v n p) (keep-given c m n (omega arith) p x)
 
-  pub keep-all : (cs : List Columns) → ((c : Columns) → List·Memᴰ c cs → List·Memᴰ c columns) → (p : List ℕ) → P p → P (giveColumns cs slot v p)
+  keep-all : (cs : List Columns) → ((c : Columns) → List·Memᴰ c cs → List·Memᴰ c columns) → (p : List ℕ) → P p → P (giveColumns cs slot v p)
   keep-all [] sub p x = x
   keep-all (c ∷ cs) sub p x =
       keep-all cs (λ d m. sub d (List·Memᴰ·tail m)) (giveElements c slot v (c .row .count) p)
@@ -58,7 +58,7 @@ module _ (v : List ℕ) (slot : ℕ) (P : List ℕ → Type 0) (one : (c : Colum
 
 module _ (v : List ℕ) (slot : ℕ) where
   -- an element that is no setting stays
-  pub others-stay : (r : Row) → List·Memᴰ r rows → isSetting r ≡ false → (j : ℕ) → j < r .count → (p : List ℕ) → elementOf r j (giveColumns columns slot v p) ≡ elementOf r j p
+  others-stay : (r : Row) → List·Memᴰ r rows → isSetting r ≡ false → (j : ℕ) → j < r .count → (p : List ℕ) → elementOf r j (giveColumns columns slot v p) ≡ elementOf r j p
   others-stay r m none j h p = keep-all v slot (λ (x : List ℕ). elementOf r j x ≡ elementOf r j p) one columns (λ c k. k) p refl
     where
       one : (c : Columns) → List·Memᴰ c columns → (i : ℕ) → i < c .row .count → (x : List ℕ) → elementOf r j x ≡ elementOf r j p → elementOf r j (putElement (c .row) i (settingIn c i slot v) x) ≡ elementOf r j p
@@ -69,7 +69,7 @@ module _ (v : List ℕ) (slot : ℕ) where
           go (inr s) = s ∙ e
 
   -- and so does every byte after the elements
-  pub rest-stays : (p : List ℕ) → drop parameterBytes (giveColumns columns slot v p) ≡ drop parameterBytes p
+  rest-stays : (p : List ℕ) → drop parameterBytes (giveColumns columns slot v p) ≡ drop parameterBytes p
   rest-stays p =
       keep-all v slot (λ (x : List ℕ). drop parameterBytes x ≡ drop parameterBytes p)
       (λ c k i l x e. element-rest (c .row) (column-row c k .0) i l (settingIn c i slot v) x ∙ e) columns (λ c k. k) p refl
@@ -134,7 +134,7 @@ module _ (v : List ℕ) (slot : ℕ) (q : Columns) (q-in : List·Memᴰ q column
       go (inr k) ih = ih k (giveElements c slot v (c .row .count) p) (omega (arith, give-length c slot p v (c .row .count)))
 
   -- going back makes the settings those of the version
-  pub slot-given : (p : List ℕ) → parameterBytes ≤ length p → elementOf (q .row) j (giveColumns columns slot v p) ≡ settingIn q j slot v
+  slot-given : (p : List ℕ) → parameterBytes ≤ length p → elementOf (q .row) j (giveColumns columns slot v p) ≡ settingIn q j slot v
   slot-given p room = in-columns columns (λ c m. m) q-in p room .is
 
 -- version n of versions of the right size

@@ -55,7 +55,7 @@ unfolding filled
 filled-alike q p same v = rw (slots-alike q p same v slots)
 
 -- bytes put over a whole list
-pub put-whole : (l bs : List ℕ) → length bs ≡ length l → put l 0 bs ≡ bs
+put-whole : (l bs : List ℕ) → length bs ≡ length l → put l 0 bs ≡ bs
 put-whole l bs e =
     put-fits l 0 bs (omega arith)
     ∙ ap (λ (t : List ℕ). bs ++ t) (drop-of-length-le l {i = 0 + length bs} (omega arith))

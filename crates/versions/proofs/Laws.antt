@@ -10,7 +10,7 @@ use lib.ListN.{length, getD, length-append, List·getD-append}
 use lib.Seq.{getD-append-add}
 use borrow.Author.Tests.{leb-true, le-leb}
 use Rattle.catalogue.specs.Table.{rows, parameterBytes}
-use Rattle.versions.specs.Layout.{Columns, columns, settings, versionBytes, lastUsed, keptCount, oldest, slotOf}
+use Rattle.versions.specs.Layout.{Columns, columns, settingCount, versionBytes, lastUsed, keptCount, oldest, slotOf}
 use Rattle.versions.specs.Keep.{taken, restored}
 use Rattle.versions.specs.Laws.{Eighteen, NumbersRise, TakenAsIs, RestoredAsKept}
 use Rattle.versions.specs.Version.{listTo, overSettings, settingsOf, versionOf, keptNumbers, isKept}
@@ -20,7 +20,7 @@ use Rattle.versions.proofs.Inner.{SameElements}
 
 -- "18 today"
 pub eighteen : Eighteen
-unfolding settings columns rows
+unfolding settingCount columns rows
 eighteen = refl
 
 -- lists that agree setting by setting are the same
@@ -44,13 +44,13 @@ to-length f (suc n) = omega (arith, length-append (listTo f n) (f n ∷ []), to-
 
 module _ (v : List ℕ) where
   -- the kept numbers rise by 1, from the oldest to the last used: at most 16 of them, and each has a slot of its own
-  pub kept-count : (length (keptNumbers v) ≡ keptCount v) × (keptCount v ≤ 16)
+  kept-count : (length (keptNumbers v) ≡ keptCount v) × (keptCount v ≤ 16)
   kept-count = (to-length (λ (i : ℕ). oldest v + i) (keptCount v), omega arith)
 
-  pub kept-last : 1 ≤ lastUsed v → oldest v + (keptCount v - 1) ≡ lastUsed v
+  kept-last : 1 ≤ lastUsed v → oldest v + (keptCount v - 1) ≡ lastUsed v
   kept-last h = omega arith
 
-  pub own-slot : (n m : ℕ) → isKept n v ≡ true → isKept m v ≡ true → slotOf n ≡ slotOf m → n ≡ m
+  own-slot : (n m : ℕ) → isKept n v ≡ true → isKept m v ≡ true → slotOf n ≡ slotOf m → n ≡ m
   own-slot n m a b e =
       let p = and-eq-true-iff (leb (oldest v) n) (leb n (lastUsed v)) .0 a in
       let q = and-eq-true-iff (leb (oldest v) m) (leb m (lastUsed v)) .0 b in
@@ -73,7 +73,7 @@ module _ (p v : List ℕ) (size : length v ≡ versionBytes) where
       taken-kept p v size q m j h (slotOf n) (omega arith) (λ e. omega (arith, low, taken-last p v size less)))
 
   -- going back makes the settings those of the version
-  pub settings-restored : parameterBytes ≤ length p → (n : ℕ) → settingsOf (restored v n p) ≡ versionOf n v
+  settings-restored : parameterBytes ≤ length p → (n : ℕ) → settingsOf (restored v n p) ≡ versionOf n v
   unfolding versionOf settingsOf
   settings-restored room n = over-same _ _ columns (λ q m j h. restored-settings v size n p room q m j h)
 
@@ -100,6 +100,14 @@ numbers-rise v =
             let two = and-eq-true-iff (leb (oldest v) n) (leb n (lastUsed v)) .0 e in
             (leb-true (oldest v) n (two .0), omega (arith, leb-true (oldest v) n (two .0), leb-true n (lastUsed v) (two .1))),
         λ b. and-eq-true-iff (leb (oldest v) n) (leb n (lastUsed v)) .1 (le-leb (oldest v) n (b .0), le-leb n (lastUsed v) (omega (arith, b .0, b .1))),
+      );
+      sixteen = λ n. (
+        λ e.
+            let two = and-eq-true-iff (leb (oldest v) n) (leb n (lastUsed v)) .0 e in
+            let low = leb-true (oldest v) n (two .0) in
+            let high = leb-true n (lastUsed v) (two .1) in
+            (omega (arith, low), high, omega (arith, low, high)),
+        λ b. and-eq-true-iff (leb (oldest v) n) (leb n (lastUsed v)) .1 (le-leb (oldest v) n (omega (arith, b .0, b .1, b .2)), le-leb n (lastUsed v) (b .1)),
       );
       apart = own-slot v;
     }

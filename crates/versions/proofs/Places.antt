@@ -44,7 +44,7 @@ module _ (l : List ℕ) (at : ℕ) (bs : List ℕ) where
       ap (λ (i : ℕ). getD (put l at bs) i 0) (sym z)
       ∙ (sym (getD-drop k (put l at bs) 0 0) ∙ (ap (λ (m : List ℕ). getD m 0 0) (put-drop l at bs k h) ∙ (getD-drop k l 0 0 ∙ ap (λ (i : ℕ). getD l i 0) z)))
 
-  pub low-after : (w k : ℕ) → at + length bs ≤ k → lowNumber w (put l at bs) k ≡ lowNumber w l k
+  low-after : (w k : ℕ) → at + length bs ≤ k → lowNumber w (put l at bs) k ≡ lowNumber w l k
   low-after zero k h = refl
   low-after (suc w) k h = rw (low-after w (k + 1) (omega arith), byte-after k h)
 
@@ -103,7 +103,7 @@ module _ (q : Columns) (q-in : List·Memᴰ q columns) (j s : ℕ) (h : j < q .r
   size = elementSize (q .row .kind)
 
   -- it stands inside its columns, before the last number used
-  pub setting-inside : placeIn q j s + size ≤ q .at + columnsOf (q .row)
+  setting-inside : placeIn q j s + size ≤ q .at + columnsOf (q .row)
   setting-inside = omega (arith, place-inside j s size (q .row .count) h hs)
 
   pub setting-before : placeIn q j s + size ≤ lastAt
@@ -126,7 +126,7 @@ module _ (q r : Columns) (q-in : List·Memᴰ q columns) (r-in : List·Memᴰ r 
       go (no n) (yes l) = inr (inr (omega (arith, before (i * 16 + t) (j * 16 + s) l)))
       go (no n) (no m) = inl (e, omega arith, omega arith)
 
-  pub settings-apart : ((q ≡ r) × (j ≡ i) × (s ≡ t)) ⊎ Apart (placeIn q j s) (elementSize (q .row .kind)) (placeIn r i t) (elementSize (r .row .kind))
+  settings-apart : ((q ≡ r) × (j ≡ i) × (s ≡ t)) ⊎ Apart (placeIn q j s) (elementSize (q .row .kind)) (placeIn r i t) (elementSize (r .row .kind))
   unfolding Same
   settings-apart = go (apart 0 columns columns-tiled q r q-in r-in)
     where

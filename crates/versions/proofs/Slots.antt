@@ -5,16 +5,16 @@ use Prim.Native.Nat.{ℕ, zero, suc, _+_, _*_, _%_, _≤_, _<_}
 use native.Mathlib.Omega.{arith}
 use native.Mathlib.Numerals.{add-one}
 use native.Mathlib.Nat.{suc-mul, mul-le-mul, mul-le-mul-right, mul-assoc}
-use lib.ListN.{length}
+use lib.ListN.{length, getD}
 use borrow.Author.Tests.{eq-eqb, ne-eqb}
 use Rattle.codes.specs.Number.{put}
 use Rattle.codes.proofs.Put.{put-length}
 use Rattle.catalogue.specs.declared.Kind.{Kind}
-use Rattle.catalogue.specs.Table.{elementSize, rows}
+use Rattle.catalogue.specs.Table.{elementSize, rows, noRow}
 use Rattle.catalogue.specs.Element.{elementOf, putElement}
 use Rattle.catalogue.proofs.Elements.{size-small, element-length}
 use Rattle.versions.specs.Low.{lowBytes}
-use Rattle.versions.specs.Layout.{Columns, columns, columnsAt, slots, lastAt, versionBytes, settingIn, lastUsed, slotOf}
+use Rattle.versions.specs.Layout.{Columns, columns, slots, lastAt, versionBytes, settingIn, lastUsed, slotOf}
 use Rattle.versions.specs.Keep.{putSetting, overColumns, takeElements, takeColumns, giveElements, giveColumns, taken, restored, fillSlots, filled}
 
 -- a place in a row's columns is a small number
@@ -51,6 +51,10 @@ over-length f h (c ∷ cs) v = over-length f h cs (f c v) ∙ h c v
 
 pub columns-length : (cs : List Columns) (slot : ℕ) (p v : List ℕ) → length (takeColumns cs slot p v) ≡ length v
 columns-length cs slot p = over-length _ (λ c v. take-length c slot p v (c .row .count)) cs
+
+-- the columns of the k-th row that is a setting
+unfoldable pub columnsAt : ℕ → Columns
+columnsAt k = getD columns k (record { row = noRow; at = 0 })
 
 -- the rows that are settings, one by one
 module _ (f : Columns → List ℕ → List ℕ) (v0 v1 v2 v3 v4 v5 v6 v7 : List ℕ) where

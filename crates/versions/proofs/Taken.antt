@@ -20,11 +20,11 @@ use Rattle.versions.proofs.Places.{low-put, low-before, setting-before,
 
 -- what each setting that is put keeps, a whole version keeps
 module _ (p : List ℕ) (slot : ℕ) (P : List ℕ → Type 0) (one : (c : Columns) → List·Memᴰ c columns → (i : ℕ) → i < c .row .count → (v : List ℕ) → P v → P (putSetting c i slot (elementOf (c .row) i p) v)) where
-  pub keep-elements : (c : Columns) → List·Memᴰ c columns → (n : ℕ) → n ≤ c .row .count → (v : List ℕ) → P v → P (takeElements c slot p n v)
+  keep-elements : (c : Columns) → List·Memᴰ c columns → (n : ℕ) → n ≤ c .row .count → (v : List ℕ) → P v → P (takeElements c slot p n v)
   keep-elements c m zero h v x = x
   keep-elements c m (suc n) h v x = one c m n (omega arith) (takeElements c slot p n v) (keep-elements c m n (omega arith) v x)
 
-  pub keep-columns : (cs : List Columns) → ((c : Columns) → List·Memᴰ c cs → List·Memᴰ c columns) → (v : List ℕ) → P v → P (takeColumns cs slot p v)
+  keep-columns : (cs : List Columns) → ((c : Columns) → List·Memᴰ c cs → List·Memᴰ c columns) → (v : List ℕ) → P v → P (takeColumns cs slot p v)
   keep-columns [] sub v x = x
   keep-columns (c ∷ cs) sub v x =
       keep-columns cs (λ d m. sub d (List·Memᴰ·tail m)) (takeElements c slot p (c .row .count) v)

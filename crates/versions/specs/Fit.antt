@@ -1,5 +1,5 @@
--- Request R-7, "number 2 also tests that they lie inside the limits": every element of every slot; a slot not yet in use holds fresh
--- settings. That the numbers rise by 1 to the last used is so for every list (`proofs/Laws.antt`), and leaves nothing to test.
+-- Document 02, R-7, "number 2 also tests that they lie inside the limits": every element of every slot; a slot not yet in use holds fresh
+-- settings. That the numbers rise by 1 to the last used is so for every list (`NumbersRise`), and leaves nothing to test.
 use mathlib.Core.Bool.{Bool, true, _&&_}
 use mathlib.Core.List.{List, [], _∷_}
 use Prim.Native.Nat.{ℕ, zero, suc, _*_}

@@ -1,4 +1,4 @@
--- Request R-7, "A version is taken after every change that stores at least one element" and "go back to one, which stores all its
+-- Document 02, R-7, "A version is taken after every change that stores at least one element" and "go back to one, which stores all its
 -- elements": a part's settings into a slot, and a slot's into the part's elements, row by row.
 use mathlib.Core.Bool.{cond}
 use mathlib.Core.List.{List, [], _∷_, _++_}

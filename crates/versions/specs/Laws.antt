@@ -8,21 +8,22 @@ use lib.ListN.{length, getD, drop}
 use Rattle.catalogue.specs.declared.Row.{Row}
 use Rattle.catalogue.specs.Table.{rows, parameterBytes}
 use Rattle.catalogue.specs.Element.{elementOf}
-use Rattle.versions.specs.Layout.{isSetting, settings, versionBytes, lastUsed, keptCount, oldest, slotOf}
+use Rattle.versions.specs.Layout.{isSetting, settingCount, versionBytes, lastUsed, keptCount, oldest, slotOf}
 use Rattle.versions.specs.Keep.{taken, restored}
 use Rattle.versions.specs.Version.{settingsOf, versionOf, keptNumbers, isKept}
 
 -- "stores all its elements (18 today)"
 abbrev pub Eighteen : Type 0
-Eighteen = settings ≡ 18
+Eighteen = settingCount ≡ 18
 
 -- "their numbers rise by 1 to the last used", whatever the bytes are: at most 16 numbers are kept, each is one more than the one before
--- it, the last is the last used; no other is kept, and each has a slot of its own
+-- it, the last is the last used; no other is kept, and each has a slot of its own; the last 16 of those used are all kept
 pub record Rising (v : List ℕ) : Type 0 where
   pub count : (length (keptNumbers v) ≡ keptCount v) × (keptCount v ≤ 16)
   pub each : (i : ℕ) → i < keptCount v → getD (keptNumbers v) i 0 ≡ oldest v + i
   pub last : 1 ≤ lastUsed v → oldest v + (keptCount v - 1) ≡ lastUsed v
   pub exactly : (n : ℕ) → (isKept n v ≡ true) ↔ ((oldest v ≤ n) × (n < oldest v + keptCount v))
+  pub sixteen : (n : ℕ) → (isKept n v ≡ true) ↔ ((1 ≤ n) × (n ≤ lastUsed v) × (lastUsed v < n + 16))
   pub apart : (n m : ℕ) → isKept n v ≡ true → isKept m v ≡ true → slotOf n ≡ slotOf m → n ≡ m
 
 abbrev pub NumbersRise : Type 0

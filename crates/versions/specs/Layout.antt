@@ -1,13 +1,13 @@
--- Request R-7, "Keep, for each farm, the last 16 versions of its writable elements": which elements are settings, and where each stands
+-- Document 02, R-7, "Keep, for each farm, the last 16 versions of its writable elements": which elements are settings, and where each stands
 -- in each of the 16 slots. An element is a column of 16 numbers, low byte first, one for each slot; the columns stand in the order of the
 -- table; after them stands the last number used.
 use mathlib.Core.Bool.{Bool, cond}
 use mathlib.Core.List.{List, [], _∷_}
 use Prim.Native.Nat.{ℕ, _+_, _-_, _*_, _%_, min}
 use lib.Dec.{eqb}
-use lib.ListN.{length, getD}
+use lib.ListN.{length}
 use Rattle.catalogue.specs.declared.Row.{Row}
-use Rattle.catalogue.specs.Table.{elementSize, bytesOf, rows, noRow}
+use Rattle.catalogue.specs.Table.{elementSize, bytesOf, rows}
 use Rattle.versions.specs.Low.{lowNumber}
 
 -- "its writable elements"
@@ -32,10 +32,6 @@ columnsFrom at (r ∷ rs) = cond (isSetting r) (record { row = r; at = at } ∷ 
 unfoldable pub columns : List Columns
 columns = columnsFrom 0 rows
 
--- the columns of the k-th row that is a setting
-unfoldable pub columnsAt : ℕ → Columns
-columnsAt k = getD columns k (record { row = noRow; at = 0 })
-
 -- the bytes that they all take
 abbrev pub columnBytes : List Row → ℕ
 columnBytes [] = 0
@@ -46,8 +42,8 @@ abbrev pub countOf : List Columns → ℕ
 countOf [] = 0
 countOf (c ∷ cs) = c .row .count + countOf cs
 
-unfoldable pub settings : ℕ
-settings = countOf columns
+unfoldable pub settingCount : ℕ
+settingCount = countOf columns
 
 unfoldable pub lastAt : ℕ
 lastAt = columnBytes rows

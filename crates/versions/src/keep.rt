@@ -84,7 +84,7 @@ fn slot_of(n: u16) -> usize
     ((n - 1) as usize) % super::SLOTS
 }
 
-// The part's settings become those of version n, which is kept; nothing changes beside a slice of another size.
+// The part's settings become those of version n, which is kept; where v has another size, nothing changes.
 pub(crate) fn restore(v: &[u8], part: &mut [u8], n: u16)
     ensures { λ q. ⌜ now (part .exit) ≡ restored (now (v .entry)) n (now (part .entry)) ⌝ }
 {

@@ -3,6 +3,8 @@ ghost use mathlib.Core.Path.{_≡_};
 ghost use Rattle.versions.specs.Layout.{lastUsed, keptCount, oldest};
 ghost use Rattle.versions.specs.Version.{isKept};
 
+const MOST: u16 = super::SLOTS as u16;
+
 // The kept numbers are `oldest` .. `oldest + count - 1`.
 pub struct Kept {
     pub oldest: u16,
@@ -23,15 +25,15 @@ pub fn list(v: &[u8]) -> Kept
     ensures { λ r. ⌜ (r .oldest ≡ oldest (now (v .entry))) × (r .count ≡ keptCount (now (v .entry))) ⌝ }
 {
     let last = last_used(v);
-    if last < 16 {
+    if last < MOST {
         Kept {
             oldest: 1,
             count: last,
         }
     } else {
         Kept {
-            oldest: last - 15,
-            count: 16,
+            oldest: last - MOST + 1,
+            count: MOST,
         }
     }
 }

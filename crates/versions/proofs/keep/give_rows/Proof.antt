@@ -2,9 +2,9 @@
 use native.Mathlib.Omega.{arith}
 use denote.Ref.{now}
 use Rattle.catalogue.specs.Table.{rows}
-use Rattle.versions.specs.Layout.{Columns, columns, columnsAt, lastAt}
+use Rattle.versions.specs.Layout.{Columns, columns, lastAt}
 use Rattle.versions.specs.Keep.{giveElements}
-use Rattle.versions.proofs.Slots.{each-row}
+use Rattle.versions.proofs.Slots.{columnsAt, each-row}
 use borrow.Author.Needs.{needs}
 use Rattle.versions.proofs.keep.give_rows.Statement.{statement}
 use Rattle.versions.proofs.keep.give_rows.Tie as tie
