@@ -90,6 +90,20 @@ static struct llinkhiro_framed returned(struct lent station, uint32_t farm, uint
     return (struct llinkhiro_framed){ r.version, r.stored, r.number };
 }
 
+static void answer(struct llinkhiro_cycled c, struct llinkhiro_framed f, struct lent station, struct lent reply)
+{
+    put(llinkhiro_size(), 8);
+    put((uint32_t)c.rpm, 4);
+    put(c.status, 2);
+    put(f.length, 2);
+    put(f.stored, 2);
+    put(c.state, 1);
+    put(c.number | f.number, 1);
+    give(station.at, station.len);
+    give(reply.at, reply.len);
+    fflush(stdout);
+}
+
 static void serve(unsigned kind)
 {
     static uint8_t *rooms[3];
@@ -122,16 +136,7 @@ static void serve(unsigned kind)
     untouched(station);
     untouched(frame);
     untouched(reply);
-    put(llinkhiro_size(), 8);
-    put((uint32_t)c.rpm, 4);
-    put(c.status, 2);
-    put(f.length, 2);
-    put(f.stored, 2);
-    put(c.state, 1);
-    put(c.number | f.number, 1);
-    give(station.at, station.len);
-    give(reply.at, reply.len);
-    fflush(stdout);
+    answer(c, f, station, reply);
 }
 
 int main(void)

@@ -26,7 +26,8 @@
  *
  *    1  farm or axis is not 1 to 16
  *    2  the station's memory is not of llinkhiro_size() bytes, or the caller's own part of it is not well-formed
- *       (it was never made fresh, or was changed by other means than these calls)
+ *       (it was never made fresh, was changed by other means than these calls, or was saved by another version of the
+ *       library)
  *    3  reply memory of fewer than 244 bytes
  *    4  frame of fewer than 4 bytes, or function byte neither 5E (read) nor 5F (write); for llinkhiro_exchange, a read too
  *    5  slot is not 0                                                           reply code B2
@@ -43,7 +44,8 @@
  *       element would be stored                                                 A1
  *
  * llinkhiro_fresh gives 0 and 2; llinkhiro_cycle 0, 1, 2 and 12; llinkhiro_frame 0 to 11 and 15; llinkhiro_exchange 0 to 8, 10,
- * 11 and 15; llinkhiro_versions 0, 1 and 2; llinkhiro_go_back 0, 1, 2, 14 and 15. 13 is no call's number: it ends a season report.
+ * 11 and 15; llinkhiro_versions 0, 1 and 2; llinkhiro_go_back 0, 1, 2, 14 and 15. 13 is no call's number: it ends a season
+ * report.
  * llinkhiro_check refuses nothing and has numbers of its own, which stand beside it below.
  *
  * SETTINGS AND THEIR VERSIONS
@@ -53,7 +55,7 @@
  * where none of them became another number. The versions of a farm are numbered 1, 2, 3 and so on to 65535 from a fresh station
  * on, each number used once, and the last 16 are kept. A fresh station has none: the fresh settings are no version.
  * When the numbers are used up, nothing can be stored any more (15): reads, and changes of which every address fails, are
- * answered as ever, and so are cycles. Only llinkhiro_fresh, which makes all farms fresh, starts the numbers again.
+ * answered as ever, and so are cycles and lists. Only llinkhiro_fresh, which makes all farms fresh, starts the numbers again.
  */
 #ifndef LLINKHIRO_H
 #define LLINKHIRO_H
@@ -99,7 +101,8 @@ struct llinkhiro_cycled {
  *   fault   fault code, 0 for none
  * Changes the part of that axis and no other.
  *
- * Axis and flags (and farm, below) are 32 bits wide on purpose: a host's 257 is refused and does not become 1 on the way.
+ * Axis and flags (and farm and version, below) are 32 bits wide on purpose: a host's 257 is refused and does not become 1 on
+ * the way.
  */
 struct llinkhiro_cycled llinkhiro_cycle(uint8_t *station, size_t station_len, uint32_t axis, uint32_t flags,
                                         uint16_t stw1, int16_t nsoll, int16_t nist, uint16_t fault);
@@ -154,11 +157,11 @@ struct llinkhiro_framed llinkhiro_exchange(uint8_t *station, size_t station_len,
                                            const uint8_t *frame, size_t frame_len, uint8_t *reply, size_t reply_len);
 
 /*
- * The versions of a farm that are kept: the numbers oldest, oldest + 1, .. oldest + kept - 1, of which the last is the last used.
+ * The versions of a farm that are kept: the numbers oldest, oldest + 1, .. oldest + kept - 1; the last of them is the last used.
  *   oldest  the oldest number kept; where none is kept, 1: the number that the first version will have
  *   kept    how many are kept, 0 to 16
  *   number  0, or the refusal: 1 or 2; then oldest and kept are 0
- * Nothing is written.
+ * Nothing is written. After a call that stored something its version is oldest + kept - 1, which is 0 where none is kept.
  */
 struct llinkhiro_listed {
     uint16_t oldest;
@@ -169,7 +172,7 @@ struct llinkhiro_listed {
 struct llinkhiro_listed llinkhiro_versions(const uint8_t *station, size_t station_len, uint32_t farm);
 
 /*
- * What a going back answers. Where it is refused, number is the refusal (1, 2, 14 or 15, tested in this order) and all else is 0.
+ * What a going back answers. Where it is refused, number is the refusal (1, 2, 14 or 15, in this order) and all else is 0.
  *   stored   the elements stored: all settings, 18
  *   version  the number of the new version
  *   number   0, or the refusal
@@ -184,7 +187,8 @@ struct llinkhiro_returned {
  * Goes back to a version: stores all settings of it, equal or not, and keeps them as a new version, so that a going back can
  * itself be gone back from. With 16 kept, the oldest is then kept no more, even where it is the one gone back to.
  *   version  the number of a version that is kept; any other, 0 and 65537 included, is refused (14)
- * The state, the faults, the words of the last cycle and a response that waits are left as they are, and no axis need be idle.
+ * The state, the faults, the words of the last cycle and a response that waits are left as they are; it is done in every state,
+ * and whether or not a response waits.
  * Changes the part of that farm's axis and no other.
  */
 struct llinkhiro_returned llinkhiro_go_back(uint8_t *station, size_t station_len, uint32_t farm, uint32_t version);

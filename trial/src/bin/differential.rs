@@ -294,10 +294,7 @@ impl Trial {
     fn count(&mut self, done: &Done) {
         let sender = done.call.owner().zip(done.before.as_ref());
         if let (2, Some((owner, before))) = (done.answer.number(), sender) {
-            self.tally.fills.ill_formed(before, owner as u8 + 1);
-            if done.bytes == STATION {
-                self.tally.kept.ill_formed(self.pair.part(owner), owner as u8 + 1);
-            }
+            self.count_ill_formed(owner, before, done.bytes);
         }
         match (&done.call, done.answer) {
             (Call::Cycle(_, inputs), Answer::Cycle(cycled)) => {
@@ -331,6 +328,14 @@ impl Trial {
             }
             (Call::Check(check), Answer::Check(number)) => self.tally.checks.count(check, number),
             _ => self.tally.fresh(),
+        }
+    }
+
+    /// A part that was refused with 2, in so many bytes of memory.
+    fn count_ill_formed(&mut self, owner: usize, before: &Axis, bytes: usize) {
+        self.tally.fills.ill_formed(before, owner as u8 + 1);
+        if bytes == STATION {
+            self.tally.kept.ill_formed(self.pair.part(owner), owner as u8 + 1);
         }
     }
 

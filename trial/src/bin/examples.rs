@@ -14,7 +14,7 @@ use std::process::ExitCode;
 use std::{env, fmt, fs};
 
 use trial::cases::{read_cases, Case, Cycle, CycleAnswer, FrameAnswer, Line, Step, PARTS, SPARE};
-use trial::face::{self, Cycled, Framed};
+use trial::face::{self, Cycled, Framed, Returned};
 use trial::pair::hex;
 use trial::sending::{in_turn, Sending, WRITE};
 
@@ -86,11 +86,7 @@ impl Bench {
                 compare(wanted, &face::versions(&self.memory[..self.lent], *farm))?;
                 self.same(&before, 0..self.memory.len())
             }
-            Step::GoBack { farm, version, wanted } => {
-                let returned = face::go_back(&mut self.memory[..self.lent], *farm, *version);
-                compare(wanted, &returned)?;
-                self.untouched(&before, returned.number, *farm)
-            }
+            Step::GoBack { farm, version, wanted } => self.go_back(&before, *farm, *version, wanted),
             Step::Check { request, response, number } => compare(number, &face::check(request, response)),
             Step::Fresh { number } => self.fresh(&before, *number),
             Step::Reply { size } => {
@@ -108,6 +104,12 @@ impl Bench {
             }
             Step::Loop { .. } => Ok(()),
         }
+    }
+
+    fn go_back(&mut self, before: &[u8], farm: u32, version: u32, wanted: &Returned) -> Result<(), (String, String)> {
+        let returned = face::go_back(&mut self.memory[..self.lent], farm, version);
+        compare(wanted, &returned)?;
+        self.untouched(before, returned.number, farm)
     }
 
     /// Asks for a fresh station, which leaves what stands behind it, and all where it is refused.
