@@ -225,6 +225,8 @@ static const char marks_response[] = "5E 00 2F 08  07 82 01 01  44 01 00 02";
 static const char store_marks[] = "5F 00 2F 10  07 02 01 01  10 02 75 31 00 00  42 02 09 C4 0B B8";
 enum { MARKS_STORED = 2 };
 static const char stored_response[] = "5E 00 2F 04  07 02 01 01";
+/* Farm 1 writes mark 3001, which fails, and 5 to 9900, which is stored. */
+static const char store_half[] = "5F 00 2F 18  07 02 01 02  10 01 75 31 00 00  10 01 26 AC 00 00  42 01 0B B9  42 01 00 05";
 /* Farm 1 reads PNU 930, which is 1. Eight bytes wait afterwards. */
 static const char read_930[] = "5F 00 2F 0A  07 01 01 01  10 01 03 A2 00 00";
 static const char response_930[] = "5E 00 2F 08  07 01 01 01  42 01 00 01";
@@ -1885,8 +1887,6 @@ static void taken(const char *name, const char *bytes, uint16_t stored, const ch
 /* One version for each call that stores something, equal or not, in one address or in many; none for any other. */
 static void version_takers(void)
 {
-    static const char bad_good[] =
-        "5F 00 2F 18  07 02 01 02  10 01 75 31 00 00  10 01 26 AC 00 00  42 01 0B B9  42 01 00 05";
     static const char good_twice[] =
         "5F 00 2F 18  07 02 01 02  10 01 75 31 00 00  10 01 75 31 00 00  42 01 00 01  42 01 00 02";
 
@@ -1895,7 +1895,7 @@ static void version_takers(void)
     taken("a change that fails takes none", write_marks, 0, marks_response, 0);
     taken("a change takes one", store_marks, MARKS_STORED, stored_response, 1);
     taken("the same again takes one", store_marks, MARKS_STORED, stored_response, 2);
-    taken("one address of two stored", bad_good, 1, "5E 00 2F 0A  07 82 01 02  44 01 00 02  40 00", 3);
+    taken("one address of two stored", store_half, 1, "5E 00 2F 0A  07 82 01 02  44 01 00 02  40 00", 3);
     taken("two addresses stored", good_twice, 2, "5E 00 2F 04  07 02 01 02", 4);
     frame("10: not readable", 1, "5F 00 2F 00", 10, 0, "DF 80 B8 00");
     exchange("11: farm 2's axis", 1, mark_of_farm_2, 11, 0, "DF 80 B6 00");
@@ -2063,8 +2063,6 @@ static void not_kept(void)
 /* Number 15 for whatever would store an element, beside what is answered as ever; and the number before it. */
 static void used_up(void)
 {
-    static const char half[] =
-        "5F 00 2F 18  07 02 01 02  10 01 75 31 00 00  10 01 26 AC 00 00  42 01 0B B9  42 01 00 05";
     static const char bad[] =
         "5F 00 2F 1A  07 02 01 02  10 02 75 31 00 00  10 01 03 A2 00 00  42 02 00 01 0B B9  42 01 00 01";
 
@@ -2076,7 +2074,7 @@ static void used_up(void)
     exchange("the last number", 1, store_marks, 0, MARKS_STORED, stored_response);
     list("no number left", 1, 0, 65520, KEPT);
     frame("15: a change", 1, store_marks, 15, 0, "DF 80 A1 00");
-    frame("15: a change of which one address fails", 1, half, 15, 0, "DF 80 A1 00");
+    frame("15: a change of which one address fails", 1, store_half, 15, 0, "DF 80 A1 00");
     frame("8: nothing waits", 1, fetch, 8, 0, "DE 80 B5 00");
     exchange("a change of which every address fails", 1, bad, 0, 0,
              "5E 00 2F 0C  07 82 01 02  44 01 00 02  44 01 00 01");
