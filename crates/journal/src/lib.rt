@@ -20,6 +20,7 @@ mod text; // text.rt: numbers as text, at a place of a line
 pub use line::put_spaced_number;
 pub use record::longest_record;
 pub use record::next_length;
+pub use record::record_length;
 
 // Room for any line: a letter, two numbers of at most ten digits, three spaces, 244 bytes in hex, and the line's end.
 pub const LINE: usize = 513;

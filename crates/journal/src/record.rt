@@ -18,7 +18,7 @@ pub(crate) const FRAME_HEAD: usize = 3;
 pub(crate) const FRAME_ROOM: usize = 244;
 
 // How long a record is, by its kind byte; anything else ends with that byte.
-fn record_length(kind: u8) -> usize
+pub fn record_length(kind: u8) -> usize
     ensures { λ r. ⌜ r ≡ recordLength kind ⌝ }
 {
     match kind {

@@ -3,6 +3,8 @@ ghost use Prim.Native.Nat.{_≤_};
 ghost use lib.ListN.{length};
 use super::Job;
 use super::out::OUT;
+use super::out::Room;
+use super::out::make_room;
 use super::record::Progress;
 use super::record::Went;
 use super::record::finish;
@@ -10,6 +12,7 @@ use super::record::work;
 use super::window::Window;
 use super::window::fill;
 use super::window::from;
+use super::window::is_short;
 use super::window::record_end;
 use super::window::unread;
 use journal::LINE;
@@ -42,6 +45,21 @@ fn ended(failed: bool) -> Went {
     if failed { Went::Stopped } else { Went::End }
 }
 
+// Writes the output where more of the file has to be waited for, so that a line is there as soon as its record is.
+fn write_before_wait(input: &[u8], w: Window, out: &[u8; OUT], used: usize) -> Room
+    requires { ⌜ (used ≤ 16384) × ((w .start ≤ w .end) × (w .end ≤ length (now input))) ⌝ }
+    ensures { λ r. ⌜ r .at ≤ 16384 ⌝ }
+{
+    if is_short(input, w) {
+        make_room(out, used, OUT)
+    } else {
+        Room {
+            at: used,
+            good: true,
+        }
+    }
+}
+
 // Works one record, if there is one.
 fn play_next(
     job: Job,
@@ -57,18 +75,34 @@ fn play_next(
     requires { ⌜ (used ≤ 16384) × ((w .start ≤ w .end) × (w .end ≤ length (now input))) ⌝ }
     ensures { λ r. ⌜ (r .used ≤ 16384) × ((r .window .start ≤ r .window .end) × (r .window .end ≤ length (now (input .entry)))) ⌝ }
 {
+    let room = write_before_wait(input, w, out, used);
+    if !room.good {
+        return Step {
+            used: 0,
+            went: Went::Stopped,
+            window: w,
+        };
+    }
     let v = fill(name, input, w);
     let start = v.start;
     let end = v.end;
     if start == end {
         return Step {
-            used,
+            used: room.at,
             went: ended(v.failed),
             window: v,
         };
     }
     let next = record_end(input, start, end);
-    let p = work(job, station, &input[start..next], totals, line, out, used);
+    let p = work(
+        job,
+        station,
+        &input[start..next],
+        totals,
+        line,
+        out,
+        room.at,
+    );
     let went = p.went;
     Step {
         used: p.used,

@@ -71,15 +71,19 @@ fn read_more(name: &[u8], input: &mut [u8], w: Window) -> Window
     }
 }
 
-// Whether the next record may not all be there yet.
-fn is_short(w: Window) -> bool
-    requires { ⌜ w .start ≤ w .end ⌝ }
+// Whether more may come, and the next record is not all there yet. Where there is room for the longest, its kind byte need not be read.
+pub(crate) fn is_short(input: &[u8], w: Window) -> bool
+    requires { ⌜ (w .start ≤ w .end) × (w .end ≤ length (now input)) ⌝ }
 {
-    if w.open {
-        w.end - w.start < journal::longest_record()
-    } else {
-        false
+    let start = w.start;
+    let left = w.end - start;
+    if !w.open || journal::longest_record() <= left {
+        return false;
     }
+    if left == 0 {
+        return true;
+    }
+    left < journal::record_length(input[start])
 }
 
 // Reads until the next record is all there, or the input ends. A read brings a byte at least, so that a record's length is enough.
@@ -89,7 +93,7 @@ pub(crate) fn fill(name: &[u8], input: &mut [u8], w: Window) -> Window
 {
     let mut v = w;
     let mut reads = journal::longest_record();
-    while reads > 0 && is_short(v) {
+    while reads > 0 && is_short(input, v) {
         v = read_more(name, input, v);
         reads -= 1;
     }
