@@ -16,7 +16,7 @@ use Rattle.journal.specs.Line.{nextRecord, pastRecord, replyRoom, lineOf
 use Rattle.journal.specs.History.{Parted, parted, replayFrom, replayOf}
 use Rattle.journal.specs.Laws.{joined, pieces, played}
 use Rattle.journal.proofs.Records.{merged-records, return-records, none-lists}
-use Rattle.journal.proofs.Whole.{parted-as-written, every-journal, enough-bytes, plays-whole, replays-whole}
+use Rattle.journal.proofs.Whole.{parted-as-written, every-journal, enough-bytes, none-longer, plays-whole, replays-whole}
 
 -- PartedAsWritten: two records and a byte that is none
 module _ (q r : List ℕ) (first : isRecord q ≡ true) (second : isRecord r ≡ true) where
@@ -39,9 +39,12 @@ module _ (bs : List ℕ) where
   left-begins-bad : isRecord (nextRecord (parted bs .left)) ≡ false
   left-begins-bad = every-journal bs .stops
 
--- EnoughBytes: 247, whatever follows
-enough : (bs more : List ℕ) → length bs ≡ 247 → nextRecord (bs ++ more) ≡ nextRecord bs
-enough bs more long = enough-bytes bs more (omega arith)
+-- EnoughBytes: 11 bytes of a cycle, whatever follows; NoneLonger: 247 bytes of anything
+enough : (bs more : List ℕ) → length bs ≡ 10 → nextRecord (1 ∷ (bs ++ more)) ≡ nextRecord (1 ∷ bs)
+enough bs more long = enough-bytes 1 bs more (omega arith)
+
+enough-of-any : (b : ℕ) (bs more : List ℕ) → length bs ≡ 246 → nextRecord (b ∷ (bs ++ more)) ≡ nextRecord (b ∷ bs)
+enough-of-any b bs more long = enough-bytes b bs more (omega (arith, none-longer b))
 
 -- PlaysWhole and ReplaysWhole: a kind that is none ends the run with its word, whatever follows it
 bad-ends : (s : List ℕ) → replayFrom (0x00 ∷ 0x01 ∷ []) s ≡ badLine

@@ -5,7 +5,7 @@ use mathlib.Core.List.{List, [], _∷_, _++_, append-assoc}
 use Prim.Native.Nat.{ℕ, zero, suc, _≤_}
 use native.Mathlib.Omega.{arith}
 use lib.Dec.{eqb, lit≤}
-use lib.ListN.{length, getD, take, length-append, length-drop, take-append-drop, List·getD-append}
+use lib.ListN.{length, getD, length-append, length-drop, take-append-drop, List·getD-append}
 use lib.Seq.{take-append-le, take-at, drop-at}
 use borrow.Table.Steps.{cases}
 use Rattle.codes.specs.Code.{AllOf}
@@ -15,7 +15,7 @@ use Rattle.station.specs.Isolation.{answer, after}
 use Rattle.station.proofs.Tests.{one-of}
 use Rattle.journal.specs.Line.{holdsFrame, recordLength, longestRecord, nextRecord, pastRecord, isRecord, callOf, lineOf, recordLine, recordAfter}
 use Rattle.journal.specs.History.{partedIn, parted, history, calls, lines, endLine, replayFrom}
-use Rattle.journal.specs.Laws.{joined, PartedAsWritten, EveryJournal, EnoughBytes, piecesIn, pieces, played, PlaysWhole, ReplaysWhole}
+use Rattle.journal.specs.Laws.{joined, PartedAsWritten, EveryJournal, EnoughBytes, NoneLonger, piecesIn, pieces, played, PlaysWhole, ReplaysWhole}
 use Rattle.journal.proofs.Records.{record-whole}
 
 -- a record has a byte at least, and no more than the longest
@@ -101,9 +101,10 @@ every-journal bs = let w = every-in (length bs) bs in record { bytes = w .bytes;
 
 pub enough-bytes : EnoughBytes
 unfolding nextRecord
-enough-bytes bs more long =
-    ap (λ (k : ℕ). take (recordLength k) (bs ++ more)) (List·getD-append bs more 0 0 (omega arith))
-    ∙ take-append-le (recordLength (getD bs 0 0)) bs more (omega (arith, record-sizes (getD bs 0 0) .1))
+enough-bytes b bs more long = take-append-le (recordLength b) (b ∷ bs) more long
+
+pub none-longer : NoneLonger
+none-longer b = record-sizes b .1
 
 -- what holds of no bytes, of a record where it holds past it, and of what is bad, holds of every journal
 module _ (P : ℕ → List ℕ → List ℕ → Type 0)

@@ -13,7 +13,7 @@ use Rattle.station.specs.Parts.{farms, freshParts}
 use Rattle.station.specs.Calls.{frame, exchange, goBack, toFrame, toList, toReturn, kinds}
 use Rattle.station.specs.Isolation.{answer}
 use Rattle.journal.specs.Text.{decimal}
-use Rattle.journal.specs.Line.{longestRecord, nextRecord, pastRecord, replyRoom, space, frameLine, lineOf, isRecord, callOf, recordLine, recordAfter}
+use Rattle.journal.specs.Line.{recordLength, longestRecord, nextRecord, pastRecord, replyRoom, space, frameLine, lineOf, isRecord, callOf, recordLine, recordAfter}
 use Rattle.journal.specs.History.{parted, replayFrom, replayOf}
 
 -- records one after the other
@@ -36,9 +36,13 @@ pub record Written (bs : List ℕ) : Type 0 where
 abbrev pub EveryJournal : Type 0
 EveryJournal = (bs : List ℕ) → Written bs
 
--- A program reads a journal by the piece. As many bytes as the longest record has are enough to tell the next one;
+-- A program reads a journal by the piece. As many bytes as its kind byte says are enough to tell the next record, and no record is longer
+-- than the longest;
 abbrev pub EnoughBytes : Type 0
-EnoughBytes = (bs more : List ℕ) → longestRecord ≤ length bs → nextRecord (bs ++ more) ≡ nextRecord bs
+EnoughBytes = (b : ℕ) (bs more : List ℕ) → recordLength b ≤ length (b ∷ bs) → nextRecord (b ∷ (bs ++ more)) ≡ nextRecord (b ∷ bs)
+
+abbrev pub NoneLonger : Type 0
+NoneLonger = (b : ℕ) → recordLength b ≤ longestRecord
 
 -- the pieces are the next record of what is left, again and again, to the end;
 abbrev pub piecesIn : ℕ → List ℕ → List (List ℕ)

@@ -42,7 +42,7 @@ pub fn next_length(left: &[u8]) -> usize
     if n < left.len() { n } else { left.len() }
 }
 
-// Bytes of the longest record, with its kind byte: so many are enough to hold the next one.
+// Bytes of the longest record, with its kind byte: so many hold any.
 pub fn longest_record() -> usize
     ensures { λ r. ⌜ r ≡ longestRecord ⌝ }
 {
