@@ -1,8 +1,8 @@
 //! Frames: readable blocks of every kind, the reads that fetch the answers, and damage of every sort.
 
-use crate::layout::{Block, Values, ADDRESS, BYTE_FORMATS, HEADER};
 use crate::random::Random;
-use crate::sending::{Sending, INDEX, READ, WRITE};
+use tools::layout::{Block, Values, ADDRESS, BYTE_FORMATS, HEADER};
+use tools::sending::{Sending, INDEX, READ, WRITE};
 use twin::{Address, Parameter, Type, BLOCK_MAX};
 
 /// What a frame was made to be; damage may have changed it since.

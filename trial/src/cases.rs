@@ -16,10 +16,10 @@
 //! - `fresh -> NUMBER`: the station is made fresh again;
 //! - `loop N` .. `end`: the steps between are played N times.
 
-use crate::face::{Listed, Returned};
 use crate::pair::hex;
-use crate::sending::Sending;
 use std::fmt;
+use tools::face::{Listed, Returned};
+use tools::sending::Sending;
 
 /// Equal parts of a station's memory.
 pub const PARTS: usize = 16;
@@ -100,18 +100,6 @@ impl fmt::Display for CycleAnswer {
 impl fmt::Display for FrameAnswer {
     fn fmt(&self, f: &mut fmt::Formatter) -> fmt::Result {
         write!(f, "{} {} {}", self.number, self.stored, hex_or_dash(&self.reply))
-    }
-}
-
-impl fmt::Display for Listed {
-    fn fmt(&self, f: &mut fmt::Formatter) -> fmt::Result {
-        write!(f, "{} {} {}", self.number, self.oldest, self.kept)
-    }
-}
-
-impl fmt::Display for Returned {
-    fn fmt(&self, f: &mut fmt::Formatter) -> fmt::Result {
-        write!(f, "{} {} {}", self.number, self.stored, self.version)
     }
 }
 

@@ -2,11 +2,11 @@
 
 use crate::blocks::{any_values, block, damage_bytes, free, misfilled};
 use crate::counts::{named, names, place, place_among, unmet, Counts, PLACES};
-use crate::layout::{Block, Values, HEADER};
 use crate::pair::hex;
 use crate::random::Random;
-use crate::sending::Sending;
 use std::fmt::{self, Display, Formatter};
+use tools::layout::{Block, Values, HEADER};
+use tools::sending::Sending;
 use twin::{AXES, BLOCK_MAX};
 
 /// A request block and a response block to be checked.

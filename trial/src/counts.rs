@@ -1,8 +1,8 @@
 //! Counts of a run, by number and by name, and what of them no call has reached.
 
 use crate::blocks::limits;
-use crate::layout::{Block, Values};
 use std::collections::BTreeMap;
+use tools::layout::{Block, Values};
 
 /// Identifiers of responses.
 const RESPONSES: [u8; 4] = [0x01, 0x02, 0x81, 0x82];
@@ -155,7 +155,7 @@ fn outside(pnu: u16, values: &[u32]) -> Vec<usize> {
 mod tests {
     use super::*;
     use crate::blocks::framed;
-    use crate::layout::HEADER;
+    use tools::layout::HEADER;
     use twin::{Address, Station};
 
     /// A change of marks, with an address for each of these.

@@ -1,11 +1,11 @@
 //! What Wireshark reads in a capture, and what it should, or does where it goes its own way: fields in the order of the
 //! packet's bytes.
 
-use crate::layout::{Block, Values, ADDRESS, HEADER};
 use std::io::{BufRead, BufReader};
 use std::net::Ipv4Addr;
 use std::path::Path;
 use std::process::{Command, Stdio};
+use tools::layout::{Block, Values, ADDRESS, HEADER};
 
 /// A field by Wireshark's name, and its number.
 pub type Field = (&'static str, u32);

@@ -2,8 +2,8 @@
 //! fetched, and in those that a part was made up with.
 
 use crate::counts::{named, names, place, unmet};
-use crate::layout::{Block, Values, ADDRESS, BYTE_FORMATS, HEADER};
 use std::fmt::{self, Display, Formatter};
+use tools::layout::{Block, Values, ADDRESS, BYTE_FORMATS, HEADER};
 use twin::{well_formed, Axis, Parameter, Waiting, BLOCK_MAX};
 
 /// What is wrong with a fill byte that alone keeps a block from being readable.

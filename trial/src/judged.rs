@@ -9,12 +9,12 @@ use crate::counts::Counts;
 use crate::dissected::{self, Field};
 use crate::dissected::{DO, ELEMENTS, ERROR, FAULT, FORMAT, LEFT_OVER, PARAMETERS, RECORD_LENGTH, REFERENCE};
 use crate::dissected::{REQUEST_ID, RESPONSE_ID, SINGLE_ONLY, VALUES};
-use crate::layout::{Side, ADDRESS, BYTE_FORMATS, HEADER};
-use crate::packets::{Answered, Capture};
-use crate::sending::Sending;
-use std::fs::File;
-use std::io::{self, BufWriter};
+use std::fs;
+use std::io;
 use std::path::Path;
+use tools::layout::{Side, ADDRESS, BYTE_FORMATS, HEADER};
+use tools::packets::{self, Answered};
+use tools::sending::Sending;
 
 /// What a checker may answer: 0, or the number of a check.
 const NUMBERS: [u8; 8] = [0, 1, 2, 3, 4, 5, 6, 7];
@@ -244,11 +244,8 @@ fn judged(capture: &Path, pairs: &[Pair]) -> Result<Vec<Vec<u8>>, String> {
 }
 
 fn write(path: &Path, pairs: &[Pair]) -> io::Result<()> {
-    let mut capture = Capture::new(BufWriter::new(File::create(path)?))?;
-    for (record, pair) in (1..).zip(pairs) {
-        capture.add(&pair.exchanges(record))?;
-    }
-    capture.finish()
+    let exchanges = (1..).zip(pairs).flat_map(|(record, pair)| packets::of(&pair.exchanges(record)));
+    fs::write(path, packets::head().into_iter().chain(exchanges).collect::<Vec<u8>>())
 }
 
 /// Whether the fields of each pair leave the number that is said of it; prints which do not, and what was decided.
@@ -347,7 +344,7 @@ pub fn planted(capture: &Path) -> Result<bool, String> {
 mod tests {
     use super::*;
     use crate::dissected::{seen_in_request, seen_in_response};
-    use crate::layout::Block;
+    use tools::layout::Block;
 
     /// The numbers that are left for two readable blocks by what Wireshark reads in them.
     fn left(request: &[u8], response: &[u8]) -> Vec<u8> {

@@ -3,8 +3,8 @@
 use crate::counts::{named, place_among, unmet, Counts, PLACES};
 use crate::meaning::{decode, encode, PART, VERSIONS};
 use crate::random::Random;
-use crate::sending::{Sending, WRITE};
 use std::fmt::{self, Display, Formatter};
+use tools::sending::{Sending, WRITE};
 use twin::{well_formed, Axis, Framed, Listed, Returned, State, Versions, KEPT};
 
 /// Refusal numbers with which a list and a going back can be answered, 0 for none.

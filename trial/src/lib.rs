@@ -7,26 +7,22 @@
 #![deny(warnings)]
 #![deny(missing_docs)]
 
-pub mod answers;
 pub mod blocks;
 pub mod cases;
 pub mod checks;
 pub mod counts;
 pub mod dissected;
-pub mod face;
-pub mod faults;
+#[cfg(test)]
+mod faults;
 pub mod fills;
-pub mod history;
-pub mod journal;
 pub mod judged;
 pub mod kept;
-pub mod layout;
 pub mod meaning;
 pub mod merged;
-pub mod packets;
 pub mod pair;
 pub mod parts;
 pub mod random;
-pub mod sending;
+pub mod station;
 pub mod tally;
+pub mod turns;
 pub mod words;

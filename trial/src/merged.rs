@@ -2,10 +2,10 @@
 
 use crate::counts::{named, unmet, Counts, Worked};
 use crate::fills::is_misfilled;
-use crate::layout::{Block, HEADER};
 use crate::meaning::{response_of, STATION};
-use crate::sending::{INDEX, READ};
 use std::fmt::{self, Display, Formatter};
+use tools::layout::{Block, HEADER};
+use tools::sending::{INDEX, READ};
 use twin::{Axis, Framed, AXES, BLOCK_MAX};
 
 const WHEN: [&str; 2] = ["while none waits", "while a response waits"];
@@ -175,7 +175,7 @@ impl Display for Merged {
 #[cfg(test)]
 mod tests {
     use super::*;
-    use crate::sending::FETCH;
+    use tools::sending::FETCH;
     use twin::Station;
 
     const READ_OF_965: [u8; 14] = [0x5F, 0, 47, 10, 7, 1, 2, 1, 0x10, 1, 0x03, 0xC5, 0, 0];

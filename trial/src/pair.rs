@@ -1,12 +1,13 @@
 //! The library and its twin, called alike, and every difference between them.
 
 use crate::checks::Check;
-use crate::face;
 use crate::meaning::{decode, encode, slot, PART, STATION};
-use crate::sending::{in_turn, read_settings, values_of, Sending};
-use crate::words::Inputs;
+use crate::turns::{in_turn, read_settings, values_of};
 use std::fmt::{self, Display, Formatter};
 use std::ops::Range;
+use tools::face;
+use tools::journal::Inputs;
+use tools::sending::Sending;
 use twin::{Axis, Cycled, Framed, Listed, Returned, Station, AXES, KEPT};
 
 /// Bytes before and after the lent station, and after the lent reply, that no call may touch: at least a part, as which they

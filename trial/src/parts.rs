@@ -1,9 +1,9 @@
 //! Parts of the station's memory that no run of calls need have left: at their limits, over them, and with any response.
 
 use crate::blocks::{any_values, misfilled};
-use crate::layout::{Block, Values};
 use crate::meaning::{encode, place, put_slot, Field, PART};
 use crate::random::Random;
+use tools::layout::{Block, Values};
 use twin::{Axis, Settings, State, Versions, Waiting, BLOCK_MAX, CODES, KEPT, SITUATIONS};
 
 /// One in so many elements is just below its limits, and as many just above: of the settings, and of a version.

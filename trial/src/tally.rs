@@ -6,9 +6,9 @@ use crate::counts::{named, names, place, unmet, Counts, Worked};
 use crate::fills::Fills;
 use crate::kept::Kept;
 use crate::merged::Merged;
-use crate::sending::Sending;
-use crate::words::Inputs;
 use std::fmt::{self, Display, Formatter};
+use tools::journal::Inputs;
+use tools::sending::Sending;
 use twin::{Axis, State};
 
 /// How the memory was lent to a call.

@@ -1,18 +1,8 @@
 //! Inputs of control cycles, chosen by the part they meet so that every state, fault and limit is soon reached.
 
 use crate::random::Random;
+use tools::journal::Inputs;
 use twin::{Axis, State, CODES};
-
-/// What a cycle is given beside its axis.
-#[derive(Clone, Copy, Debug)]
-#[allow(missing_docs)]
-pub struct Inputs {
-    pub flags: u32,
-    pub stw1: u16,
-    pub nsoll: i16,
-    pub nist: i16,
-    pub fault: u16,
-}
 
 const SPEEDS: [i16; 13] = [0, 1, -1, 164, -165, 8192, 16383, 16384, -16383, -16384, 32767, -32767, -32768];
 

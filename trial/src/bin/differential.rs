@@ -5,16 +5,17 @@
 
 use std::process::ExitCode;
 use std::time::{Duration, Instant};
+use tools::layout::HEADER;
+use tools::progress::Progress;
+use tools::sending::{Sending, READ};
 use trial::blocks::{self, Kind};
 use trial::checks::{Check, Own};
 use trial::kept;
-use trial::layout::HEADER;
 use trial::meaning::{field_at, response_of, PART, STATION, VERSIONS};
 use trial::merged;
 use trial::pair::{hex, Answer, Call, Difference, Pair, GUARD, REPLY_MAX};
 use trial::parts;
 use trial::random::Random;
-use trial::sending::{Sending, READ};
 use trial::tally::{Setting, Tally};
 use trial::words;
 use twin::{well_formed, Axis, Framed, AXES};
@@ -98,7 +99,7 @@ fn run(options: &Options) -> Result<Tally, String> {
         altered_versions: 0,
     };
     let start = Instant::now();
-    let mut said = start;
+    let mut progress = Progress::new();
     loop {
         let calls = trial.tally.calls;
         match options.time {
@@ -107,9 +108,8 @@ fn run(options: &Options) -> Result<Tally, String> {
             _ => {}
         }
         trial.step()?;
-        if options.time.is_some() && calls % ALL_PARTS == 0 && said.elapsed() >= Duration::from_secs(10) {
-            println!("{} s, {calls} calls", start.elapsed().as_secs());
-            said = Instant::now();
+        if calls % ALL_PARTS == 0 {
+            progress.tell(|| format!("{} s, {calls} calls", start.elapsed().as_secs()));
         }
     }
     Ok(trial.tally)

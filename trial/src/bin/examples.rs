@@ -13,10 +13,11 @@ use std::collections::{HashMap, HashSet};
 use std::process::ExitCode;
 use std::{env, fmt, fs};
 
+use tools::face::{self, Cycled, Framed, Returned};
+use tools::sending::{Sending, WRITE};
 use trial::cases::{read_cases, Case, Cycle, CycleAnswer, FrameAnswer, Line, Step, PARTS, SPARE};
-use trial::face::{self, Cycled, Framed, Returned};
 use trial::pair::hex;
-use trial::sending::{in_turn, Sending, WRITE};
+use trial::turns::in_turn;
 
 const SPARE_BYTE: u8 = 0x5A;
 const REPLY_BYTE: u8 = 0xA5;

@@ -1,21 +1,22 @@
-//! Writes a journal of made-up records to standard output, for two replays or two season reports to be given alike.
+//! Usage: `made-up-journal [RECORDS [SEED]]`: writes a journal of made-up records to standard output, for two replays or two season
+//! reports to be given alike, and for what is told of journals to be held against the library.
 
 #![forbid(unsafe_code)]
 #![deny(warnings)]
 
 use std::io::{self, BufWriter, Write};
-use trial::journal::FRAME_ROOM;
+use tools::journal::FRAME_ROOM;
+use tools::sending::Sending;
 use trial::random::Random;
-use trial::sending::Sending;
 use trial::{blocks, kept, words};
 use twin::{Station, AXES};
 
 fn main() -> io::Result<()> {
-    let records = std::env::args().nth(1).and_then(|n| n.parse().ok()).unwrap_or(10_000);
-    let mut random = Random::new(7);
+    let number = |at: usize| std::env::args().nth(at).and_then(|number| number.parse().ok());
+    let mut random = Random::new(number(2).unwrap_or(7));
     let mut station = Station::fresh();
     let mut out = BufWriter::new(io::stdout());
-    for _ in 0..records {
+    for _ in 0..number(1).unwrap_or(10_000) {
         match random.below(20) {
             0..=9 => cycle(&mut random, &mut station, &mut out)?,
             10 => go_back(&mut random, &mut station, &mut out)?,

@@ -55,19 +55,18 @@
 #![forbid(unsafe_code)]
 #![deny(warnings)]
 
-use std::fs::{self, File};
-use std::io::BufWriter;
+use std::fs;
 use std::path::{Path, PathBuf};
 use std::process::ExitCode;
+use tools::journal::{self, Next, Record};
+use tools::layout::{Block, Values, BYTE_FORMATS};
+use tools::packets::{self, Answered};
+use tools::sending::{Sending, FETCH, INDEX, READ, WRITE};
 use trial::cases::{logical_lines, read_bytes, read_cases, Line, Step};
 use trial::dissected::{self, fields_of_request, seen_in_request, seen_in_response, Field, FAULT, PROFIDRIVE};
-use trial::journal::{self, Next, Record};
 use trial::judged::{self, altered, Pair};
-use trial::layout::{Block, Values, BYTE_FORMATS};
-use trial::packets::{Answered, Capture};
 use trial::random::Random;
-use trial::sending::{Sending, FETCH, INDEX, READ, WRITE};
-use trial::{blocks, parts, words};
+use trial::{blocks, parts, station, words};
 use twin::{Address, Station, AXES, REPLY_MIN};
 
 const SEED: u64 = 11;
@@ -207,7 +206,7 @@ impl Meaning {
 /// A capture with what its packets mean, written from a station of the library with the twin beside it.
 struct Bench {
     path: PathBuf,
-    capture: Capture<BufWriter<File>>,
+    capture: Vec<u8>,
     meant: Vec<Meant>,
     records: u64,
     requests: usize,
@@ -220,12 +219,10 @@ struct Bench {
 
 impl Bench {
     fn new(path: PathBuf) -> Result<Bench, String> {
-        let file = File::create(&path).map_err(|error| format!("{}: {error}", path.display()))?;
-        let capture = Capture::new(BufWriter::new(file)).map_err(|error| error.to_string())?;
-        let (library, twin) = (journal::station(), Station::fresh());
+        let (library, twin) = (station::fresh(), Station::fresh());
         Ok(Bench {
             path,
-            capture,
+            capture: packets::head(),
             meant: Vec::new(),
             records: 0,
             requests: 0,
@@ -251,7 +248,8 @@ impl Bench {
             self.meant.extend([request, response]);
             exchanges.push(answered);
         }
-        self.capture.add(&exchanges).map_err(|error| error.to_string())
+        self.capture.extend(packets::of(&exchanges));
+        Ok(())
     }
 
     /// Plays a record on the library and on the twin: the library's exchanges and the twin's answers.
@@ -267,7 +265,7 @@ impl Bench {
             }
             Record::Frame(farm, sending, frame) => self.twins_answers(*farm, *sending, frame),
         };
-        let exchanges = journal::play(&mut self.library, record, 0);
+        let exchanges = station::play(&mut self.library, record, 0);
         assert_eq!(exchanges.len(), answers.len(), "an answer of the twin for each of the library");
         exchanges.into_iter().zip(answers).collect()
     }
@@ -290,7 +288,7 @@ impl Bench {
     }
 
     fn journal(&mut self, what: &str, mut bytes: &[u8]) -> Result<(), String> {
-        (self.library, self.twin) = (journal::station(), Station::fresh());
+        (self.library, self.twin) = (station::fresh(), Station::fresh());
         while let Next::Record(record) = journal::next(&mut bytes).map_err(|error| error.to_string())? {
             let played = self.play(record);
             self.add(what, played.into_iter().map(Meaning::of_bytes).collect())?;
@@ -426,7 +424,7 @@ impl Bench {
 
     /// Lets Wireshark read the capture; the differences of each packet.
     fn differences(self) -> Result<Vec<(Meant, Vec<String>)>, String> {
-        self.capture.finish().map_err(|error| error.to_string())?;
+        fs::write(&self.path, &self.capture).map_err(|error| format!("{}: {error}", self.path.display()))?;
         let packets = dissected::read(&self.path)?;
         if packets.len() != self.meant.len() {
             return Err(format!("Wireshark sees {} packets of {}", packets.len(), self.meant.len()));

@@ -1,8 +1,9 @@
 //! The C face of the proved library, through `host/serve`: a program for the library's processor that makes the calls asked of it.
 
-use std::env;
+use crate::host;
+use std::fmt;
 use std::io::{BufReader, BufWriter, Read, Write};
-use std::process::{ChildStdin, ChildStdout, Command, Stdio};
+use std::process::{ChildStdin, ChildStdout, Stdio};
 use std::sync::Mutex;
 
 /// The answer of a cycle.
@@ -51,6 +52,18 @@ pub struct Returned {
     pub number: u8,
 }
 
+impl fmt::Display for Listed {
+    fn fmt(&self, f: &mut fmt::Formatter) -> fmt::Result {
+        write!(f, "{} {} {}", self.number, self.oldest, self.kept)
+    }
+}
+
+impl fmt::Display for Returned {
+    fn fmt(&self, f: &mut fmt::Formatter) -> fmt::Result {
+        write!(f, "{} {} {}", self.number, self.stored, self.version)
+    }
+}
+
 const SIZE: u8 = 0;
 const FRESH: u8 = 1;
 const CYCLE: u8 = 2;
@@ -81,22 +94,20 @@ struct Server {
 
 static SERVER: Mutex<Option<Server>> = Mutex::new(None);
 
-/// Starts the command in LLINKHIRO_SERVER, its words apart by spaces.
+/// Starts the program, if it does not run yet. Every call starts it, and fails where it does not start.
 // Nobody waits for it: it ends with this program, when its input does.
 #[allow(clippy::zombie_processes)]
-fn start() -> Server {
-    let command = env::var("LLINKHIRO_SERVER").expect("LLINKHIRO_SERVER names the program that makes the calls");
-    let mut words = command.split_whitespace();
-    let program = words.next().expect("LLINKHIRO_SERVER is empty");
-    let mut child = Command::new(program)
-        .args(words)
-        .stdin(Stdio::piped())
-        .stdout(Stdio::piped())
-        .spawn()
-        .expect("the program that makes the calls does not start");
-    let to = BufWriter::with_capacity(1 << 16, child.stdin.take().expect("piped"));
-    let from = BufReader::with_capacity(1 << 16, child.stdout.take().expect("piped"));
-    Server { to, from }
+pub fn start() -> Result<(), String> {
+    let mut server = SERVER.lock().expect("an earlier call failed");
+    if server.is_none() {
+        let mut command = host::program("serve")?;
+        command.stdin(Stdio::piped());
+        let mut child = command.spawn().map_err(|error| host::unstarted(&command, &error))?;
+        let to = BufWriter::with_capacity(1 << 16, child.stdin.take().expect("piped"));
+        let from = BufReader::with_capacity(1 << 16, child.stdout.take().expect("piped"));
+        *server = Some(Server { to, from });
+    }
+    Ok(())
 }
 
 impl Server {
@@ -135,8 +146,9 @@ impl Server {
 }
 
 fn call(kind: u8, asked: &Asked, station: &mut [u8], frame: &[u8], reply: &mut [u8]) -> Heard {
+    start().expect("the program that makes the calls starts");
     let mut server = SERVER.lock().expect("an earlier call failed");
-    let server = server.get_or_insert_with(start);
+    let server = server.as_mut().expect("started");
     server
         .ask(kind, asked, station, frame, reply)
         .and_then(|()| server.hear(station, reply))

@@ -1,55 +1,11 @@
-//! The two calls that take a frame of a farm, the merged call made of frames in turn, and the settings as they are read.
+//! The merged call made of frames in turn, and all settings as they are read.
 
 use crate::blocks::framed;
-use crate::face::{self, Framed};
-use crate::layout::HEADER;
-use std::fmt::{self, Display, Formatter};
-use twin::{Settings, Station, REPLY_MIN};
-
-/// Function byte of a read.
-pub const READ: u8 = 0x5E;
-/// Function byte of a write.
-pub const WRITE: u8 = 0x5F;
-/// Index of the parameter blocks.
-pub const INDEX: u8 = 47;
-/// The read that fetches any response.
-pub const FETCH: [u8; 4] = [READ, 0, INDEX, 240];
-
-/// How a frame is sent.
-#[derive(Clone, Copy, Debug, PartialEq, Eq)]
-pub enum Sending {
-    /// By itself.
-    Alone,
-    /// By the merged call, which takes a write and fetches its response.
-    Merged,
-}
-
-impl Sending {
-    /// Sends a frame to the library.
-    pub fn ours(self, station: &mut [u8], farm: u32, frame: &[u8], reply: &mut [u8]) -> Framed {
-        match self {
-            Sending::Alone => face::frame(station, farm, frame, reply),
-            Sending::Merged => face::exchange(station, farm, frame, reply),
-        }
-    }
-
-    /// Sends a frame to the twin.
-    pub fn twins(self, station: &mut Station, farm: u32, frame: &[u8], reply: &mut [u8]) -> twin::Framed {
-        match self {
-            Sending::Alone => station.frame(farm, frame, reply),
-            Sending::Merged => station.exchange(farm, frame, reply),
-        }
-    }
-}
-
-impl Display for Sending {
-    fn fmt(&self, f: &mut Formatter) -> fmt::Result {
-        f.write_str(match self {
-            Sending::Alone => "frame",
-            Sending::Merged => "merged call",
-        })
-    }
-}
+use tools::face::{self, Framed};
+use tools::layout::HEADER;
+use tools::sending::{FETCH, READ};
+use tools::settings;
+use twin::{Settings, REPLY_MIN};
 
 /// What the merged call must come to, by the library's own frames in turn: the write and, where it was done, the fetch.
 pub fn in_turn(station: &mut [u8], farm: u32, frame: &[u8], reply: &mut [u8]) -> Framed {
@@ -91,6 +47,13 @@ pub fn read_settings(station: &mut [u8], farm: u32) -> Vec<u8> {
     let read = face::exchange(station, farm, &framed(&block), &mut reply);
     reply.truncate(read.length.into());
     reply.split_off(reply.len().min(2 * HEADER))
+}
+
+/// All settings of a farm, in the order of `tools::settings::all`, read on a copy of the station.
+pub fn settings_held(station: &[u8], farm: u8) -> Vec<i32> {
+    let blocks = read_settings(&mut station.to_vec(), farm.into());
+    let response = [&[1, 1, farm, SETTINGS.len() as u8], blocks.as_slice()].concat();
+    settings::values(&response).expect("the library answers a read of all settings")
 }
 
 /// The blocks of values that hold these settings.

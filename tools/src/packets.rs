@@ -35,7 +35,6 @@
 //! number, and its low 16 bits are the SeqNumber, in all packets of the record.
 
 use crate::sending::{Sending, FETCH, INDEX, READ, WRITE};
-use std::io::{self, Write};
 
 /// What a farm sent and what it was answered.
 #[derive(Clone, Debug)]
@@ -240,46 +239,31 @@ fn checksum(bytes: &[u8]) -> u16 {
     !(sum as u16)
 }
 
-/// A capture being written, in the form that Wireshark calls pcap.
-pub struct Capture<W> {
-    out: W,
+/// The beginning of a capture, in the form that Wireshark calls pcap.
+pub fn head() -> Vec<u8> {
+    const ETHERNET: u32 = 1;
+    [0xA1B2_C3D4, 0x0002_0004, 0, 0, 0xFFFF, ETHERNET].map(u32::to_be_bytes).concat()
 }
 
-impl<W: Write> Capture<W> {
-    /// A capture without a packet.
-    pub fn new(mut out: W) -> io::Result<Capture<W>> {
-        const ETHERNET: u32 = 1;
-        for number in [0xA1B2_C3D4, 0x0002_0004, 0, 0, 0xFFFF, ETHERNET] {
-            out.write_all(&u32::to_be_bytes(number))?;
-        }
-        Ok(Capture { out })
+/// The exchanges of a record, each as two packets.
+pub fn of(exchanges: &[Answered]) -> Vec<u8> {
+    const RECORD: u64 = 1000;
+    let mut packets = Vec::new();
+    for (at, answered) in (0..).zip(exchanges) {
+        let time = |packet: u64| RECORD * answered.record + packet * RECORD / (2 * exchanges.len() as u64);
+        let farm = farm_end(answered.farm);
+        packets.extend(packet(time(2 * at), &on_the_wire(&farm, &BOX_END, &request(answered))));
+        packets.extend(packet(time(2 * at + 1), &on_the_wire(&BOX_END, &farm, &response(answered))));
     }
+    packets
+}
 
-    /// Adds the exchanges of a record, each as two packets.
-    pub fn add(&mut self, exchanges: &[Answered]) -> io::Result<()> {
-        const RECORD: u64 = 1000;
-        for (at, answered) in (0..).zip(exchanges) {
-            let time = |packet: u64| RECORD * answered.record + packet * RECORD / (2 * exchanges.len() as u64);
-            let farm = farm_end(answered.farm);
-            self.packet(time(2 * at), &on_the_wire(&farm, &BOX_END, &request(answered)))?;
-            self.packet(time(2 * at + 1), &on_the_wire(&BOX_END, &farm, &response(answered)))?;
-        }
-        Ok(())
-    }
-
-    fn packet(&mut self, microseconds: u64, bytes: &[u8]) -> io::Result<()> {
-        const SECOND: u64 = 1_000_000;
-        let length = bytes.len() as u32;
-        for number in [(microseconds / SECOND) as u32, (microseconds % SECOND) as u32, length, length] {
-            self.out.write_all(&number.to_be_bytes())?;
-        }
-        self.out.write_all(bytes)
-    }
-
-    /// Ends the capture.
-    pub fn finish(mut self) -> io::Result<()> {
-        self.out.flush()
-    }
+/// A packet of a capture, sent at this time.
+fn packet(microseconds: u64, bytes: &[u8]) -> Vec<u8> {
+    const SECOND: u64 = 1_000_000;
+    let length = bytes.len() as u32;
+    let numbers = [(microseconds / SECOND) as u32, (microseconds % SECOND) as u32, length, length];
+    [&numbers.map(u32::to_be_bytes).concat(), bytes].concat()
 }
 
 #[cfg(test)]
@@ -342,10 +326,8 @@ mod tests {
 
     #[test]
     fn a_capture_of_one_exchange() {
-        let mut bytes = Vec::new();
-        let mut capture = Capture::new(&mut bytes).unwrap();
-        capture.add(&[answered(&[0x5E, 0, 47, 240], 8, &[0xDE, 0x80, 0xB5, 0])]).unwrap();
-        capture.finish().unwrap();
+        let exchange = answered(&[0x5E, 0, 47, 240], 8, &[0xDE, 0x80, 0xB5, 0]);
+        let bytes = [head(), of(&[exchange])].concat();
         assert_eq!(bytes.len(), 24 + 2 * (16 + HEADERS + BLOCK));
         // Record 65541 is sent at 65.541 seconds.
         assert_eq!(&bytes[24..32], [0, 0, 0, 65, 0x00, 0x08, 0x41, 0x48]);
@@ -366,9 +348,7 @@ mod tests {
         let told: Vec<_> = parts.iter().map(|it| (it.frame.as_slice(), it.reply.as_slice(), it.stored)).collect();
         assert_eq!(told, [(&write[..], &[0x5F, 0, 47, 2][..], 3), (&[0x5E, 0, 47, 0xF0], &block, 0)]);
         assert!(parts.iter().all(|it| (it.record, it.farm, it.number) == (0x1_0005, 2, 0)));
-        let mut bytes = Vec::new();
-        let mut capture = Capture::new(&mut bytes).unwrap();
-        capture.add(&parts).unwrap();
+        let bytes = [head(), of(&parts)].concat();
         assert_eq!(bytes.len(), 24 + 4 * (16 + HEADERS + BLOCK) + 2 + 4);
         assert_eq!(microseconds(&bytes), [541_000, 541_250, 541_500, 541_750]);
     }

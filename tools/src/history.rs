@@ -1,15 +1,14 @@
 //! The history of a farm's settings, as far as it is kept when a journal has been played, told for people.
 //!
-//! Right after each record that makes a version all settings are read, on a copy of the station, and remembered as long as the
-//! library's list has the number. Going back to each version would show the same, but not once the numbers are used up.
+//! All settings, as they are right after each record that makes a version, are remembered as long as the library's list has the
+//! number. Going back to each version would show the same, but not once the numbers are used up.
 
-use crate::face::{self, Listed};
-use crate::journal::{self, Next, Record};
-use crate::layout::Block;
-use crate::sending::{Sending, FETCH, INDEX, WRITE};
+use crate::command::{Length, NO_CLOCK};
+use crate::journal::Record;
+use crate::played::Played;
+use crate::sending::Sending;
+use crate::settings::elements;
 use std::fmt::{self, Display, Formatter};
-use std::io::{self, Read};
-use twin::{Address, Parameter, REPLY_MIN};
 
 /// The parameters that are settings, as the two lines of a version show them.
 const SETTINGS: [&[u16]; 2] = [&[9900, 9901, 10111], &[30001, 30002, 30003, 30004]];
@@ -58,47 +57,23 @@ struct Version {
 /// The versions of a farm that are kept after the records so far.
 #[derive(Clone, Debug)]
 pub struct History {
-    /// How many records there were.
-    pub records: u64,
-    /// Whether a bad record came after them.
-    pub bad: bool,
     farm: u8,
     versions: Vec<Version>,
 }
 
 impl History {
-    fn new(farm: u8) -> History {
-        History { records: 0, bad: false, farm, versions: Vec::new() }
+    /// That of a farm before the first record.
+    pub fn new(farm: u8) -> History {
+        History { farm, versions: Vec::new() }
     }
 
-    /// Plays a journal, to its end or to a bad record.
-    pub fn after(input: &mut impl Read, farm: u8) -> io::Result<History> {
-        let mut station = journal::station();
-        let mut history = History::new(farm);
-        let mut next = journal::next(input)?;
-        while let Next::Record(record) = next {
-            history.records += 1;
-            // The library promises that no other farm's call changes this one's part, so those need not be made.
-            if owner(&record) == farm {
-                history.play(&mut station, record);
-            }
-            next = journal::next(input)?;
-        }
-        history.bad = matches!(next, Next::Bad);
-        Ok(history)
-    }
-
-    /// Plays a record of the farm.
-    fn play(&mut self, station: &mut [u8], record: Record) {
-        let maker = Maker::of(&record);
-        journal::play(station, record, self.records);
-        let Some(maker) = maker else { return };
-        let listed = face::versions(station, self.farm.into());
-        assert_eq!(listed.number, 0, "the library lists the versions of a farm");
-        let number = last_used(&listed);
-        if number != self.made() {
-            let settings = settings(station, self.farm);
-            self.keep(Version { number, record: self.records, maker, settings }, listed.oldest);
+    /// Takes what came of the next record; other farms' are passed over.
+    pub fn add(&mut self, played: &Played) {
+        let (Some(after), Some(maker)) = (&played.after, Maker::of(&played.record)) else { return };
+        // The last number stays where elements that are no settings are stored.
+        if played.record.owner() == self.farm && after.last != self.made() {
+            let settings = after.settings.clone();
+            self.keep(Version { number: after.last, record: played.place, maker, settings }, after.oldest);
         }
     }
 
@@ -113,27 +88,12 @@ impl History {
         self.versions.last().map_or(0, |version| version.number)
     }
 
-    /// The list, under the name of its journal.
-    pub fn lines(&self, journal: &str) -> Vec<String> {
+    /// The list, under the name of its journal, of which so much was played.
+    pub fn lines(&self, journal: &str, length: Length) -> Vec<String> {
         let mut lines = vec![format!("Farm {}, {journal}: {}", self.farm, self.said())];
         lines.extend(self.table());
-        lines.push(format!(
-            "{} kept of {} made in {}. A journal has no clock: it counts records, the lines of its replay.",
-            self.versions.len(),
-            self.made(),
-            self.played()
-        ));
+        lines.push(format!("{} kept of {} made in {length}. {NO_CLOCK}", self.versions.len(), self.made()));
         lines
-    }
-
-    /// How much was played, in words.
-    fn played(&self) -> String {
-        let records = format!("{} record{}", self.records, if self.records == 1 { "" } else { "s" });
-        if self.bad {
-            format!("the {records} before a bad one")
-        } else {
-            records
-        }
     }
 
     /// What the list is, in words.
@@ -183,61 +143,17 @@ fn marked(values: &[i32], above: &[i32]) -> Vec<String> {
 fn settings_lines(values: Vec<String>) -> [String; 2] {
     let mut values = values.into_iter();
     let mut parameter = |pnu: &u16| {
-        let values: Vec<_> = values.by_ref().take(elements(*pnu)).collect();
+        let values: Vec<_> = values.by_ref().take(elements(*pnu).into()).collect();
         format!("{pnu} {}", values.join(" "))
     };
     SETTINGS.map(|pnus| pnus.iter().map(&mut parameter).collect::<Vec<_>>().join(GAP))
 }
 
-/// The last number used, 0 for none.
-fn last_used(listed: &Listed) -> u16 {
-    listed.oldest - 1 + listed.kept
-}
-
-/// Whose record it is.
-fn owner(record: &Record) -> u8 {
-    match record {
-        Record::Cycle(owner, _) | Record::Frame(owner, _, _) | Record::GoBack(owner, _) => *owner,
-    }
-}
-
-/// The elements of a parameter.
-fn elements(pnu: u16) -> usize {
-    Parameter::find(pnu).and_then(Parameter::array_length).unwrap_or(1)
-}
-
-/// All settings of a farm, read on a copy of the station.
-fn settings(station: &[u8], farm: u8) -> Vec<i32> {
-    let (mut copy, mut reply) = (station.to_vec(), vec![0; REPLY_MIN]);
-    // A response that waits would keep the read out; where none does, this is refused and does nothing.
-    face::frame(&mut copy, farm.into(), &FETCH, &mut reply);
-    let framed = face::exchange(&mut copy, farm.into(), &reading(farm), &mut reply);
-    assert_eq!(framed.number, 0, "the library takes a read of all settings");
-    values(&reply[4..framed.length.into()]).expect("the library answers a read of all settings")
-}
-
-/// The frame that asks for all settings.
-fn reading(farm: u8) -> Vec<u8> {
-    let address = |pnu: u16| Address { attribute: 0x10, elements: elements(pnu) as u8, pnu, sub_index: 0 };
-    let addresses: Vec<_> = SETTINGS.concat().into_iter().map(address).collect();
-    let count = addresses.len() as u8;
-    let block = Block { reference: 1, identifier: 0x01, axis: farm, count, addresses, values: Vec::new() };
-    let mut frame = vec![WRITE, 0, INDEX, block.length() as u8];
-    frame.extend(block.bytes());
-    frame
-}
-
-/// The values in a response block, none where it is unreadable or has an error.
-fn values(block: &[u8]) -> Option<Vec<i32>> {
-    let block = Block::of_response(block).filter(|block| block.identifier == 0x01)?;
-    // A word fills the low half of its 32 bits; a double word, the only signed one, is all of them.
-    Some(block.values.iter().flat_map(|values| &values.values).map(|value| *value as i32).collect())
-}
-
 #[cfg(test)]
 mod tests {
     use super::*;
-    use crate::words::Inputs;
+    use crate::journal::Inputs;
+    use crate::settings;
 
     const FRESH: [i32; 18] = [0, 0, 0, 0, 0, 0, 0, 0, 0, 1500, 0, 0, 0, 0, 164, 16384, 0, 0];
 
@@ -250,8 +166,13 @@ mod tests {
         settings
     }
 
-    fn history(records: u64, made: &[(Maker, &[(usize, i32)])]) -> History {
-        let mut history = History { records, ..History::new(16) };
+    /// So many whole records.
+    fn length(records: u64) -> Length {
+        Length { records, bad: false }
+    }
+
+    fn history(made: &[(Maker, &[(usize, i32)])]) -> History {
+        let mut history = History::new(16);
         for (number, (maker, others)) in (1..).zip(made) {
             let record = 10 * u64::from(number);
             history.keep(Version { number, record, maker: *maker, settings: but(others) }, 1);
@@ -263,7 +184,7 @@ mod tests {
     fn a_list_with_every_maker() {
         let (alone, merged) = (Maker::Frame(Sending::Alone), Maker::Frame(Sending::Merged));
         let changed = [(0, 65535), (12, 500), (16, -100_000)];
-        let history = history(41, &[(alone, &[(12, 2500)]), (merged, &changed), (Maker::GoBack(2), &changed)]);
+        let history = history(&[(alone, &[(12, 2500)]), (merged, &changed), (Maker::GoBack(2), &changed)]);
         let lines = [
             "Farm 16, a.journal: versions 1 to 3 are kept. * marks a value that differs from the one above.",
             "version 1                        9900      0   9901 0 0 0 0 0 0 0 0   10111 1500",
@@ -274,16 +195,16 @@ mod tests {
             "  record 30, back to version 2   30001 0 0  500 0   30002 164   30003 16384   30004  -100000 0",
             "3 kept of 3 made in 41 records. A journal has no clock: it counts records, the lines of its replay.",
         ];
-        assert_eq!(history.lines("a.journal"), lines);
+        assert_eq!(history.lines("a.journal", length(41)), lines);
     }
 
     #[test]
     fn one_version_or_none() {
-        let one = history(1, &[(Maker::Frame(Sending::Alone), &[])]).lines("standard input");
+        let one = history(&[(Maker::Frame(Sending::Alone), &[])]).lines("standard input", length(1));
         assert_eq!((one.len(), one[0].as_str()), (4, "Farm 16, standard input: version 1 is kept."));
         assert!(one[1].starts_with("version 1, the last ") && !one[2].contains('*'));
         assert!(one[3].starts_with("1 kept of 1 made in 1 record. "));
-        let none = history(0, &[]).lines("a.journal");
+        let none = history(&[]).lines("a.journal", length(0));
         assert!(none[0].starts_with("Farm 16, a.journal: no version is kept. "));
         assert!(none[1].starts_with("0 kept of 0 made in 0 records. "));
         assert_eq!(none.len(), 2);
@@ -291,56 +212,32 @@ mod tests {
 
     #[test]
     fn a_bad_record_is_told() {
-        let history = History { bad: true, ..history(7, &[]) };
-        assert!(history.lines("a.journal")[1].contains(" made in the 7 records before a bad one. "));
+        let bad = Length { records: 7, bad: true };
+        assert!(history(&[]).lines("a.journal", bad)[1].contains(" made in the 7 records before a bad one. "));
     }
 
     #[test]
     fn what_the_list_has_no_more_is_forgotten() {
-        let mut history = history(9, &[(Maker::GoBack(1), &[][..]); 16]);
+        let mut history = history(&[(Maker::GoBack(1), &[][..]); 16]);
         history.keep(Version { number: 17, record: 9, maker: Maker::GoBack(1), settings: but(&[]) }, 2);
         assert_eq!((history.versions.len(), history.versions[0].number, history.made()), (16, 2, 17));
-        assert!(history.lines("a.journal")[33].starts_with("16 kept of 17 made in 9 records. "));
-    }
-
-    #[test]
-    fn last_numbers() {
-        let last = |oldest, kept| last_used(&Listed { oldest, kept, number: 0 });
-        assert_eq!((last(1, 0), last(1, 16), last(65520, 16)), (0, 16, 65535));
+        assert!(history.lines("a.journal", length(9))[33].starts_with("16 kept of 17 made in 9 records. "));
     }
 
     #[test]
     fn records_and_their_makers() {
         let inputs = Inputs { flags: 0, stw1: 0, nsoll: 0, nist: 0, fault: 0 };
         let cycle = Record::Cycle(3, inputs);
-        assert_eq!((owner(&cycle), Maker::of(&cycle)), (3, None));
+        assert_eq!((cycle.owner(), Maker::of(&cycle)), (3, None));
         let frame = Record::Frame(4, Sending::Merged, Vec::new());
-        assert_eq!((owner(&frame), Maker::of(&frame)), (4, Some(Maker::Frame(Sending::Merged))));
+        assert_eq!((frame.owner(), Maker::of(&frame)), (4, Some(Maker::Frame(Sending::Merged))));
         let back = Record::GoBack(5, 6);
-        assert_eq!((owner(&back), Maker::of(&back)), (5, Some(Maker::GoBack(6))));
+        assert_eq!((back.owner(), Maker::of(&back)), (5, Some(Maker::GoBack(6))));
     }
 
     #[test]
     fn the_settings_are_what_can_be_written() {
-        let is_setting = |pnu: &u16| Parameter::find(*pnu).is_some_and(|parameter| parameter.limits().is_some());
-        let pnus: Vec<u16> = (0..=u16::MAX).filter(is_setting).collect();
-        assert_eq!(SETTINGS.concat(), pnus);
-        assert_eq!(pnus.into_iter().map(elements).sum::<usize>(), FRESH.len());
-    }
-
-    #[test]
-    fn the_read_of_all_settings() {
-        let frame = reading(9);
-        assert_eq!(frame[..8], [0x5F, 0, 47, 46, 1, 1, 9, 7]);
-        assert_eq!(frame[8..20], [0x10, 1, 0x26, 0xAC, 0, 0, 0x10, 8, 0x26, 0xAD, 0, 0]);
-        assert_eq!(frame.len(), 50);
-    }
-
-    #[test]
-    fn words_have_no_sign_and_double_words_have() {
-        let block = [1, 1, 9, 2, 0x42, 1, 0xFF, 0xFF, 0x43, 1, 0xFF, 0xFF, 0xFF, 0xEC];
-        assert_eq!(values(&block), Some(vec![65535, -20]));
-        assert_eq!(values(&[1, 0x81, 9, 1, 0x44, 1, 0, 0]), None);
-        assert_eq!(values(&block[..9]), None);
+        assert_eq!(SETTINGS.concat(), settings::parameters().collect::<Vec<_>>());
+        assert_eq!(settings::all().len(), FRESH.len());
     }
 }

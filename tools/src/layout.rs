@@ -6,6 +6,10 @@ use twin::{Address, Item, Request, RequestKind, Response, ResponseKind};
 pub const HEADER: usize = 4;
 /// Bytes of an address.
 pub const ADDRESS: usize = 6;
+/// Identifier of a change.
+pub const CHANGE: u8 = 0x02;
+/// Attribute of an address that names values.
+pub const VALUE: u8 = 0x10;
 /// Formats of one byte. A fill byte, one zero that the count leaves out, follows an odd number of their values.
 pub const BYTE_FORMATS: [u8; 3] = [0x41, 2, 5];
 
@@ -78,6 +82,11 @@ impl Values {
     /// Whether it is an error block.
     pub fn is_error(&self) -> bool {
         self.format == 0x44
+    }
+
+    /// The error word; none where it is no error block.
+    pub fn error_word(&self) -> Option<u16> {
+        self.values.first().filter(|_| self.is_error()).map(|word| *word as u16)
     }
 
     /// Whether it holds values: it is neither an error nor `40 00`.

@@ -1,16 +1,28 @@
-//! Journals: their records, read and played on the library.
+//! Journals: their records, read and written.
 
-use crate::face;
-use crate::packets::Answered;
 use crate::sending::Sending;
-use crate::words::Inputs;
 use std::io::{self, ErrorKind, Read};
-use twin::REPLY_MIN;
+
+const CYCLE: u8 = 1;
+const FRAME: u8 = 2;
+const MERGED: u8 = 3;
+const RETURN: u8 = 4;
 
 const CYCLE_BODY: usize = 10;
 const RETURN_BODY: usize = 3;
 /// Bytes that a record has for its frame.
 pub const FRAME_ROOM: usize = 244;
+
+/// What a cycle is given beside its axis.
+#[derive(Clone, Copy, Debug)]
+#[allow(missing_docs)]
+pub struct Inputs {
+    pub flags: u32,
+    pub stw1: u16,
+    pub nsoll: i16,
+    pub nist: i16,
+    pub fault: u16,
+}
 
 /// A record.
 #[derive(Clone, Debug)]
@@ -21,6 +33,57 @@ pub enum Record {
     Frame(u8, Sending, Vec<u8>),
     /// Kind 4: a going back of this farm to this version.
     GoBack(u8, u16),
+}
+
+impl Record {
+    /// Whose it is: its axis or farm, as it says.
+    pub fn owner(&self) -> u8 {
+        match self {
+            Record::Cycle(owner, _) | Record::Frame(owner, _, _) | Record::GoBack(owner, _) => *owner,
+        }
+    }
+
+    fn kind(&self) -> u8 {
+        match self {
+            Record::Cycle(..) => CYCLE,
+            Record::Frame(_, Sending::Alone, _) => FRAME,
+            Record::Frame(_, Sending::Merged, _) => MERGED,
+            Record::GoBack(..) => RETURN,
+        }
+    }
+
+    /// Bytes of the record.
+    pub fn length(&self) -> usize {
+        length_of(self.kind())
+    }
+
+    /// The record as it stands in a journal. Its flags are a byte, and its frame has room there.
+    pub fn bytes(&self) -> Vec<u8> {
+        let mut bytes = vec![self.kind(), self.owner()];
+        match self {
+            Record::Cycle(_, Inputs { flags, stw1, nsoll, nist, fault }) => {
+                bytes.push(*flags as u8);
+                bytes.extend([*stw1, *nsoll as u16, *nist as u16, *fault].map(u16::to_be_bytes).as_flattened());
+            }
+            Record::Frame(_, _, frame) => {
+                bytes.push(frame.len() as u8);
+                bytes.extend(frame);
+            }
+            Record::GoBack(_, version) => bytes.extend(version.to_be_bytes()),
+        }
+        bytes.resize(self.length(), 0);
+        bytes
+    }
+}
+
+/// Bytes of a record of this kind; of a kind that there is not, the byte that says so.
+pub fn length_of(kind: u8) -> usize {
+    1 + match kind {
+        CYCLE => CYCLE_BODY,
+        FRAME | MERGED => 2 + FRAME_ROOM,
+        RETURN => RETURN_BODY,
+        _ => 0,
+    }
 }
 
 /// What comes next in a journal.
@@ -41,10 +104,10 @@ pub fn next(input: &mut impl Read) -> io::Result<Next> {
         return Ok(Next::End);
     }
     let record = match kind {
-        [1] => cycle(input)?,
-        [2] => frame(input, Sending::Alone)?,
-        [3] => frame(input, Sending::Merged)?,
-        [4] => go_back(input)?,
+        [CYCLE] => cycle(input)?,
+        [FRAME] => frame(input, Sending::Alone)?,
+        [MERGED] => frame(input, Sending::Merged)?,
+        [RETURN] => go_back(input)?,
         _ => None,
     };
     Ok(record.map_or(Next::Bad, Next::Record))
@@ -82,34 +145,6 @@ fn go_back(input: &mut impl Read) -> io::Result<Option<Record>> {
     Ok(whole.then_some(Record::GoBack(farm, u16::from_be_bytes([high, low]))))
 }
 
-/// A fresh station of the library.
-pub fn station() -> Vec<u8> {
-    let mut station = vec![0; face::size()];
-    assert_eq!(face::fresh(&mut station), 0, "a station of the library's own size is made fresh");
-    station
-}
-
-/// Plays the record in this place, counted from 1: the exchanges that it was, none where it has no frame.
-pub fn play(station: &mut [u8], record: Record, place: u64) -> Vec<Answered> {
-    match record {
-        Record::Cycle(axis, i) => {
-            face::cycle(station, axis.into(), i.flags, i.stw1, i.nsoll, i.nist, i.fault);
-            Vec::new()
-        }
-        Record::GoBack(farm, version) => {
-            face::go_back(station, farm.into(), version.into());
-            Vec::new()
-        }
-        Record::Frame(farm, sending, frame) => {
-            let mut reply = vec![0; REPLY_MIN];
-            let framed = sending.ours(station, farm.into(), &frame, &mut reply);
-            reply.truncate(framed.length.into());
-            let (number, stored) = (framed.number, framed.stored);
-            Answered { record: place, farm, frame, number, stored, reply }.by(sending)
-        }
-    }
-}
-
 #[cfg(test)]
 mod tests {
     use super::*;
@@ -138,6 +173,25 @@ mod tests {
         assert_eq!(frame, [0x5F, 0, 47, 0]);
         assert!(matches!(next(&mut input), Ok(Next::Record(Record::GoBack(2, 0x1234)))));
         assert!(matches!(next(&mut input), Ok(Next::End)));
+    }
+
+    #[test]
+    fn a_record_is_written_as_it_was_read() {
+        let longest = (0..FRAME_ROOM).map(|byte| byte as u8).collect::<Vec<_>>();
+        for bytes in [
+            vec![1, 3, 0xFF, 0x04, 0x7F, 0x80, 0x00, 0xFF, 0xFE, 0x12, 0x34],
+            frame_record(2, 4, &[0x5E, 0, 47, 0xF0]),
+            frame_record(3, 0, &[]),
+            frame_record(2, 244, &longest),
+            vec![4, 2, 0x12, 0x34],
+        ] {
+            let Ok(Next::Record(record)) = next(&mut bytes.as_slice()) else { panic!("no record: {bytes:02X?}") };
+            assert_eq!(
+                (record.bytes(), record.length(), length_of(bytes[0])),
+                (bytes.clone(), bytes.len(), bytes.len())
+            );
+        }
+        assert_eq!([0, 5, 255].map(length_of), [1; 3]);
     }
 
     fn assert_bad(journals: &[&[u8]]) {

@@ -1,0 +1,36 @@
+//! Usage: `tell COMMAND ARGUMENT..`: one of the commands for people, which `../../llinkhiro` builds and starts. What each takes and
+//! prints is said by `../../llinkhiro COMMAND --help`.
+//!
+//! Exit status: 0, all is well; 1, something was found wrong, and was told; 2, trouble with a file, or the command was asked for
+//! wrongly.
+
+#![forbid(unsafe_code)]
+#![deny(warnings)]
+
+use std::ffi::OsString;
+use std::process::ExitCode;
+use tools::command::Ended;
+use tools::{capture, check, versions};
+
+fn main() -> ExitCode {
+    let arguments: Vec<OsString> = std::env::args_os().skip(1).collect();
+    let Some((command, arguments)) = arguments.split_first() else {
+        eprintln!("usage: tell COMMAND ARGUMENT..");
+        return ExitCode::from(2);
+    };
+    let name = command.to_string_lossy();
+    let ended = match name.as_ref() {
+        "capture" => capture::run(arguments),
+        "check" => check::run(arguments),
+        "versions" => versions::run(arguments),
+        _ => Err("there is no such command".to_string()),
+    };
+    match ended {
+        Ok(Ended::Good) => ExitCode::SUCCESS,
+        Ok(Ended::Bad) => ExitCode::FAILURE,
+        Err(trouble) => {
+            eprintln!("{name}: {trouble}");
+            ExitCode::from(2)
+        }
+    }
+}
