@@ -170,6 +170,7 @@ test_commands() {
   test_check
   test_versions
   test_capture
+  test_who
   test_usage
   test_anywhere
   test_progress

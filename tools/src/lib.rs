@@ -7,6 +7,7 @@
 #![deny(warnings)]
 #![deny(missing_docs)]
 
+pub mod attempts;
 pub mod capture;
 pub mod check;
 pub mod command;
@@ -20,6 +21,7 @@ pub mod layout;
 pub mod line;
 pub mod log;
 pub mod names;
+pub mod notation;
 pub mod packets;
 pub mod played;
 pub mod progress;
@@ -27,4 +29,5 @@ pub mod sending;
 pub mod settings;
 pub mod verdict;
 pub mod versions;
+pub mod who;
 pub mod words;

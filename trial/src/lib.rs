@@ -25,4 +25,5 @@ pub mod random;
 pub mod station;
 pub mod tally;
 pub mod turns;
+pub mod who;
 pub mod words;
