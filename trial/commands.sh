@@ -171,6 +171,7 @@ test_commands() {
   test_versions
   test_capture
   test_who
+  test_explain
   test_usage
   test_anywhere
   test_progress

@@ -8,9 +8,11 @@
 #![deny(missing_docs)]
 
 pub mod attempts;
+pub mod bits;
 pub mod capture;
 pub mod check;
 pub mod command;
+pub mod explain;
 pub mod face;
 pub mod faults;
 pub mod hex;

@@ -10,7 +10,7 @@
 use std::ffi::OsString;
 use std::process::ExitCode;
 use tools::command::Ended;
-use tools::{capture, check, versions, who};
+use tools::{capture, check, explain, versions, who};
 
 fn main() -> ExitCode {
     let arguments: Vec<OsString> = std::env::args_os().skip(1).collect();
@@ -22,6 +22,7 @@ fn main() -> ExitCode {
     let ended = match name.as_ref() {
         "capture" => capture::run(arguments),
         "check" => check::run(arguments),
+        "explain" => explain::run(arguments),
         "versions" => versions::run(arguments),
         "who" => who::run(arguments),
         _ => Err("there is no such command".to_string()),
