@@ -172,6 +172,7 @@ test_commands() {
   test_capture
   test_who
   test_explain
+  test_journal
   test_usage
   test_anywhere
   test_progress

@@ -29,6 +29,7 @@ pub mod played;
 pub mod progress;
 pub mod sending;
 pub mod settings;
+pub mod text;
 pub mod verdict;
 pub mod versions;
 pub mod who;

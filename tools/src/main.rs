@@ -10,7 +10,7 @@
 use std::ffi::OsString;
 use std::process::ExitCode;
 use tools::command::Ended;
-use tools::{capture, check, explain, versions, who};
+use tools::{capture, check, explain, text, versions, who};
 
 fn main() -> ExitCode {
     let arguments: Vec<OsString> = std::env::args_os().skip(1).collect();
@@ -23,6 +23,7 @@ fn main() -> ExitCode {
         "capture" => capture::run(arguments),
         "check" => check::run(arguments),
         "explain" => explain::run(arguments),
+        "journal" => text::run(arguments),
         "versions" => versions::run(arguments),
         "who" => who::run(arguments),
         _ => Err("there is no such command".to_string()),
