@@ -173,6 +173,7 @@ test_commands() {
   test_who
   test_explain
   test_journal
+  test_picture
   test_usage
   test_anywhere
   test_progress

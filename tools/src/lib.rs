@@ -25,6 +25,7 @@ pub mod log;
 pub mod names;
 pub mod notation;
 pub mod packets;
+pub mod picture;
 pub mod played;
 pub mod progress;
 pub mod sending;

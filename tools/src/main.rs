@@ -10,7 +10,7 @@
 use std::ffi::OsString;
 use std::process::ExitCode;
 use tools::command::Ended;
-use tools::{capture, check, explain, text, versions, who};
+use tools::{capture, check, explain, picture, text, versions, who};
 
 fn main() -> ExitCode {
     let arguments: Vec<OsString> = std::env::args_os().skip(1).collect();
@@ -24,6 +24,7 @@ fn main() -> ExitCode {
         "check" => check::run(arguments),
         "explain" => explain::run(arguments),
         "journal" => text::run(arguments),
+        "picture" => picture::run(arguments),
         "versions" => versions::run(arguments),
         "who" => who::run(arguments),
         _ => Err("there is no such command".to_string()),
