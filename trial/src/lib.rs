@@ -11,11 +11,9 @@ pub mod blocks;
 pub mod cases;
 pub mod checks;
 pub mod counts;
-pub mod dissected;
 #[cfg(test)]
 mod faults;
 pub mod fills;
-pub mod judged;
 pub mod kept;
 pub mod meaning;
 pub mod merged;
@@ -26,4 +24,5 @@ pub mod station;
 pub mod tally;
 pub mod turns;
 pub mod who;
+pub mod wireshark;
 pub mod words;
