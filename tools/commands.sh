@@ -189,7 +189,16 @@ report() {
   fi
   takes 1 999 'the file to write and, if you like, journals' 'report --picture' "${@:2}"
   not_onto "${@:2}"
+  not_over_others "$2"
   written "$2" picture "${@:3}"
+}
+
+# not_over_others OUT : a picture takes the place of a picture alone. Who forgets it names a journal in its place.
+not_over_others() {
+  local file
+  file=$(named "$1")
+  [ ! -f "$file" ] || [ ! -s "$file" ] || [ "$(head -c 4 "$file" | tr -d '\0')" = '<svg' ] ||
+    fail "$1: it is there and is no picture; the file to write comes before the journals"
 }
 
 # The counts of journals, drawn under their names; status 1 where a bad record ended them.

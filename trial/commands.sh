@@ -105,6 +105,8 @@ test_help() {
     ends 0 '' "tools/help/$command.txt" "$command" --help
     ends 0 '' "tools/help/$command.txt" help "$command"
   done
+  said=$(./llinkhiro help 2>&1 >/dev/full) && fail "help of a full disk"
+  [ "$said" = 'llinkhiro: standard output: it cannot be written' ] || fail "help of a full disk: $said"
 }
 
 # elsewhere COMMAND ARGUMENT.. : a command from another folder, through a symlink and without a toolchain, where what is built is enough, does

@@ -77,16 +77,16 @@ impl Held {
         Held { all: settings::all(), farms: vec![settings.to_vec(); AXES] }
     }
 
-    /// The attempts of the next record; of what a going back brought, only the elements that are `wanted`. The error is that the
-    /// library holds something else than would be told.
-    pub fn attempts(&mut self, played: &Played, wanted: impl Fn(u16, u32) -> bool) -> Result<Vec<Attempt>, String> {
+    /// The attempts of the next record. Of a going back those are the elements that came out different, or one at the version where none
+    /// did; with `each`, all of its elements. The error is that the library holds something else than would be told.
+    pub fn attempts(&mut self, played: &Played, each: bool) -> Result<Vec<Attempt>, String> {
         let attempts = match (&played.record, &played.answer) {
             (Record::Frame(farm, sending, frame), Answer::Framed(framed)) => {
                 let attempts = self.changes(*farm, frame, response(*sending, framed), framed.number)?;
                 counted_as(attempts, framed.stored)?
             }
             (Record::GoBack(farm, version), Answer::Returned(returned)) => match &played.after {
-                Some(after) => self.returned(*farm, *version, after, wanted),
+                Some(after) => self.returned(*farm, *version, after, each),
                 None => vec![back(*farm, *version, Outcome::Refused(returned.number))],
             },
             _ => Vec::new(),
@@ -146,13 +146,13 @@ impl Held {
         Ok(Attempt { axis, target, outcome })
     }
 
-    /// What a going back of a farm brought of what is wanted.
-    fn returned(&mut self, farm: u8, version: u16, after: &After, wanted: impl Fn(u16, u32) -> bool) -> Vec<Attempt> {
+    /// What a going back of a farm stored.
+    fn returned(&mut self, farm: u8, version: u16, after: &After, each: bool) -> Vec<Attempt> {
         let before = self.of(farm).map(|held| std::mem::replace(held, after.settings.clone())).unwrap_or_default();
         let mut attempts = Vec::new();
         for ((pnu, index), (old, new)) in self.all.iter().zip(before.iter().zip(&after.settings)) {
             let element = Element { attribute: VALUE, pnu: *pnu, index: (*index).into() };
-            if old != new && wanted(element.pnu, element.index) {
+            if each || old != new {
                 let target = Target::Element(element, (*new).into());
                 attempts.push(Attempt { axis: farm, target, outcome: Outcome::Set((*old).into(), Some(version)) });
             }

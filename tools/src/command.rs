@@ -2,11 +2,12 @@
 
 use crate::played::{Next, Played, Player};
 use crate::progress::Progress;
+use crate::text;
 use crate::words::counted;
 use std::ffi::OsStr;
 use std::fmt::{self, Display, Formatter};
 use std::fs::File;
-use std::io::{self, BufReader, BufWriter, Read, StdoutLock, Write};
+use std::io::{self, BufReader, BufWriter, Read, Seek, StdoutLock, Write};
 use std::path::Path;
 use std::process::Stdio;
 
@@ -44,11 +45,21 @@ pub struct Journal {
 }
 
 impl Journal {
-    /// Opens it.
+    /// Opens it. A file that begins as a text does is refused: who wrote one by hand should hear more than that record 1 is bad.
     pub fn open(typed: &OsStr) -> Result<Journal, String> {
-        let (name, stdio, bytes) = opened(typed, Stdio::inherit, Stdio::from)?;
-        Ok(Journal { name, stdio, bytes })
+        let (name, mut file, bytes) = opened(typed, || None, Some)?;
+        if bytes.is_some() && file.as_mut().is_some_and(begins_as_text) {
+            return Err(format!("{name}: it begins as a text does; './llinkhiro journal' makes a journal of a text"));
+        }
+        Ok(Journal { name, stdio: file.map_or_else(Stdio::inherit, Stdio::from), bytes })
     }
+}
+
+/// Whether a file begins as a text does; it is left where it begins.
+fn begins_as_text(file: &mut File) -> bool {
+    let mut first = [0];
+    let is_text = matches!(file.read(&mut first), Ok(1)) && text::is_text(&first);
+    file.rewind().is_ok() && is_text
 }
 
 /// A file that is read here, named in the same way.

@@ -34,12 +34,17 @@ pub fn elements(pnu: u16, sub_index: u16, count: u8) -> String {
 /// An address: its parameter and elements.
 pub fn address(address: &Address) -> String {
     let named = elements(address.pnu, address.sub_index, address.elements);
-    let attribute = address.attribute;
-    match ATTRIBUTES.iter().find(|(number, _)| *number == attribute) {
-        _ if attribute == VALUE => named,
-        Some((_, name)) => format!("{name} {named}"),
-        None => format!("attribute {attribute:02X} {named}"),
+    match attribute(address.attribute) {
+        Some(name) => format!("{name} {named}"),
+        None => named,
     }
+}
+
+/// What an attribute is called; none where it is that of values.
+pub fn attribute(attribute: u8) -> Option<String> {
+    let known = ATTRIBUTES.iter().find(|(number, _)| *number == attribute);
+    let name = known.map_or_else(|| format!("attribute {attribute:02X}"), |(_, name)| name.to_string());
+    (attribute != VALUE).then_some(name)
 }
 
 /// The number that the low bytes of a value are to a parameter.

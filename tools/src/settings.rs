@@ -35,12 +35,26 @@ pub fn values(block: &[u8]) -> Option<Vec<i32>> {
 #[cfg(test)]
 mod tests {
     use super::*;
+    use crate::notation;
 
     #[test]
     fn the_settings_of_the_table() {
         assert_eq!(parameters().collect::<Vec<_>>(), [9900, 9901, 10111, 30001, 30002, 30003, 30004]);
         let all = all();
         assert_eq!((all.len(), all[0], all[8], all[10], all[17]), (18, (9900, 0), (9901, 7), (30001, 0), (30004, 1)));
+    }
+
+    #[test]
+    fn people_are_told_what_can_be_set() {
+        let help = include_str!("../help/who.txt");
+        let told: Vec<_> = help.lines().filter_map(|line| line.strip_prefix("    ")).collect();
+        assert_eq!(told.len(), parameters().count());
+        for (pnu, line) in parameters().zip(told) {
+            let (low, high) = Parameter::find(pnu).and_then(Parameter::limits).unwrap();
+            let elements = notation::elements(pnu, 0, elements(pnu) as u8);
+            let words: Vec<_> = line.split_whitespace().take(4).collect();
+            assert_eq!(words, [elements, low.to_string(), "to".to_string(), high.to_string()]);
+        }
     }
 
     #[test]

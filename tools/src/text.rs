@@ -38,7 +38,7 @@ pub fn run(arguments: &[OsString]) -> Result<Ended, String> {
 }
 
 /// Whether a file that begins so is a text. A journal begins with a small number; a damaged one that begins like text needs the option.
-fn is_text(begin: &[u8]) -> bool {
+pub fn is_text(begin: &[u8]) -> bool {
     let mark = BYTE_ORDER_MARK.to_string();
     let is_of_text = |byte: &u8| byte.is_ascii_graphic() || byte.is_ascii_whitespace();
     begin.starts_with(mark.as_bytes()) || begin.first().is_some_and(is_of_text)

@@ -2,7 +2,7 @@
 
 use crate::attempts::{Attempt, Element, Held, Outcome, Target};
 use crate::command::{self, Ended, Journal, Output, NO_CLOCK};
-use crate::layout::{Values, VALUE};
+use crate::layout::Values;
 use crate::names::{self, UNREADABLE};
 use crate::notation;
 use crate::played::Played;
@@ -28,7 +28,7 @@ pub fn run(arguments: &[OsString]) -> Result<Ended, String> {
     let (mut output, mut held, mut told) = (Output::new(), None, Told::default());
     let length = command::play(journal, &mut output, |player, played, output| {
         let held = held.get_or_insert_with(|| Held::fresh(&player.fresh));
-        let attempts = held.attempts(played, |pnu, index| wanted.has(pnu, index));
+        let attempts = held.attempts(played, wanted.pnu.is_some());
         let attempts = attempts.map_err(|wrong| format!("{name}: record {}: {wrong}", played.place))?;
         attempts.iter().filter(|attempt| wanted.is_met(attempt)).try_for_each(|attempt| {
             told.count(attempt);
@@ -118,15 +118,12 @@ fn line(played: &Played, attempt: &Attempt) -> String {
 /// An element by its parameter and index.
 fn named(element: &Element) -> String {
     let Element { attribute, pnu, index } = *element;
-    format!("PNU {}{}", notation::element(pnu, index), by(attribute))
+    format!("{}PNU {}", of_attribute(attribute), notation::element(pnu, index))
 }
 
-/// An attribute under which nothing can be changed.
-fn by(attribute: u8) -> String {
-    match attribute {
-        VALUE => String::new(),
-        _ => format!(" by attribute {attribute:02X}"),
-    }
+/// An attribute that is not the value, of which nothing can be changed.
+fn of_attribute(attribute: u8) -> String {
+    notation::attribute(attribute).map_or(String::new(), |name| format!("{name} of "))
 }
 
 /// What was asked for and not stored.
@@ -135,7 +132,7 @@ fn asked(target: &Target) -> String {
         Target::Element(element, value) => format!("{} = {value}", named(element)),
         Target::Address(address, values) => {
             let elements = notation::elements(address.pnu, address.sub_index, address.elements);
-            format!("PNU {elements}{} = {}", by(address.attribute), few(address.pnu, values))
+            format!("{}PNU {elements} = {}", of_attribute(address.attribute), few(address.pnu, values))
         }
         Target::Unreadable(_) => "a change that is not readable".to_string(),
         Target::Version(version) => format!("back to version {version}"),
@@ -190,7 +187,7 @@ mod tests {
         let (mut held, wanted) = (Held::fresh(&FRESH), wanted(typed).unwrap());
         let mut lines = Vec::new();
         for played in records {
-            let attempts = held.attempts(played, |pnu, index| wanted.has(pnu, index)).unwrap();
+            let attempts = held.attempts(played, wanted.pnu.is_some()).unwrap();
             lines.extend(attempts.iter().filter(|attempt| wanted.is_met(attempt)).map(|attempt| line(played, attempt)));
         }
         lines.iter().map(|line| line.strip_prefix("record 7: farm ").unwrap().to_string()).collect()
@@ -244,8 +241,10 @@ mod tests {
             "0 tried axis 0, back to version 1: no such farm or axis (1)",
         ];
         assert_eq!(told(&records, &[])[5..], lines);
-        let second = "1 went back to version 1 on axis 1: nothing different";
-        assert_eq!(told(&records, &["1", "30001", "1"])[3..], [&[second], &lines[3..5]].concat());
+        let second =
+            [1, 3].map(|version| format!("1 set axis 1, PNU 30001[1]: 2000 -> 2000, back to version {version}"));
+        assert_eq!(told(&records, &["1", "30001", "1"])[3..], [&second[..], &[lines[4].to_string()]].concat());
+        assert_eq!(told(&records, &["1", "30001", "4"]), lines[4..5]);
     }
 
     #[test]
@@ -266,10 +265,7 @@ mod tests {
         );
         assert_eq!(failed("10 01 03 B0 00 00 42 01 00 00", 1), ["PNU 944 = 0: parameter is read only (error 01)"]);
         assert_eq!(failed("10 01 75 31 FF FF 42 01 00 01", 3), ["PNU 30001[65535] = 1: no such element (error 03)"]);
-        assert_eq!(
-            failed("30 01 75 31 00 00 42 01 00 01", 15),
-            ["PNU 30001[0] by attribute 30 = 1: no text (error 0F)"]
-        );
+        assert_eq!(failed("30 01 75 31 00 00 42 01 00 01", 15), ["text of PNU 30001[0] = 1: no text (error 0F)"]);
         assert_eq!(
             failed("10 02 75 31 00 00 42 01 00 01", 24),
             ["PNU 30001[0..1] = 1: wrong number of values (error 18)"]
@@ -299,7 +295,7 @@ mod tests {
             refused(1, Sending::Alone, cut, 10),
             [format!("{unreadable}: it is cut where bytes 5 to 10 should be addresses (10)")]
         );
-        assert_eq!(refused(1, Sending::Alone, cut, 5), [format!("{unreadable}: slot is not 0 (5)")]);
+        assert_eq!(refused(1, Sending::Alone, cut, 5), [format!("{unreadable}: the frame's slot is not 0 (5)")]);
         for none in ["", "5F 00 2F 02 07 02", "5E 00 2F F0", "5F 00 2F 04 07 01 01 01", "5D 00 2F 04 07 02 01 01"] {
             assert_eq!(refused(1, Sending::Alone, none, 4), [""; 0], "{none}");
         }
@@ -308,7 +304,7 @@ mod tests {
     #[test]
     fn what_the_library_does_not_hold_is_no_line() {
         let [marks, ..] = &stored()[..] else { panic!("nothing stored") };
-        let wrong = |played: Played| Held::fresh(&FRESH).attempts(&played, |_, _| true).unwrap_err();
+        let wrong = |played: Played| Held::fresh(&FRESH).attempts(&played, false).unwrap_err();
         assert!(wrong(leaving(marks.clone(), &but(&[(10, 1000)]))).starts_with("the library holds other settings"));
         let read_only = change(1, "10 01 03 B0 00 00 42 01 00 00");
         let all = (0, 1, "5E 00 2F 04 07 02 01 01");

@@ -2,15 +2,15 @@
 
 # The lines of document 01's journal, by the words of each of its records.
 test_explain_lines() {
-  local lines=target/trial/explained on='operation enabled, ramp generator enabled, setpoint unfrozen, setpoint enabled, control by PLC'
+  local lines=target/trial/explained on='enable operation, enable ramp generator, unfreeze setpoint, enable setpoint, control by PLC'
   cat >"$lines" <<TXT
-record 1: axis 1, STW1 047E (off, no coast stop, no quick stop, $on), setpoint 0 (0.00 %), actual 0 (0.00 %) -> S1 to S2 ready, 0 rpm, ZSW1 0331 (ready to switch on, no coast stop, no quick stop, at its setpoint, control requested)
-record 2: axis 1, STW1 047F (on, no coast stop, no quick stop, $on), setpoint 0 (0.00 %), actual 0 (0.00 %) -> S2 to S3 switched on, 0 rpm, ZSW1 0333 (ready to switch on, ready to operate, no coast stop, no quick stop, at its setpoint, control requested)
-record 3: axis 1, STW1 047F (on, no coast stop, no quick stop, $on), setpoint 8192 (50.00 %), actual 0 (0.00 %) -> S3 to S4 operation, 750 rpm, ZSW1 0237 (ready to switch on, ready to operate, operation enabled, no coast stop, no quick stop, not at its setpoint, control requested)
-record 4: axis 1, STW1 047D (on, coast stop, no quick stop, $on), setpoint 0 (0.00 %), actual 0 (0.00 %) -> S4 to S1 switching on inhibited, 0 rpm, ZSW1 0360 (coast stop, no quick stop, switching on inhibited, at its setpoint, control requested)
-record 5: farm 1 writes change 07 axis 1: 30001[0..1] = 1000 3001 -> taken, 0 elements stored
-record 6: farm 1 fetches -> answered 30001[0..1]: outside its limits (error 02)
-record 7: farm 2 writes change 07 axis 1: 30001[0..1] = 1000 3001 -> refused: denied, not its axis (11)
+record 1: axis 1, STW1 047E (switch off, no coast stop, no quick stop, $on), setpoint 0 (0.00 %), actual 0 (0.00 %) -> S1 to S2 ready, effective setpoint 0 rpm, ZSW1 0331 (ready to switch on, no coast stop, no quick stop, at its setpoint, control requested)
+record 2: axis 1, STW1 047F (switch on, no coast stop, no quick stop, $on), setpoint 0 (0.00 %), actual 0 (0.00 %) -> S2 to S3 switched on, effective setpoint 0 rpm, ZSW1 0333 (ready to switch on, ready to operate, no coast stop, no quick stop, at its setpoint, control requested)
+record 3: axis 1, STW1 047F (switch on, no coast stop, no quick stop, $on), setpoint 8192 (50.00 %), actual 0 (0.00 %) -> S3 to S4 operation, effective setpoint 750 rpm, ZSW1 0237 (ready to switch on, ready to operate, operation enabled, no coast stop, no quick stop, not at its setpoint, control requested)
+record 4: axis 1, STW1 047D (switch on, coast stop, no quick stop, $on), setpoint 0 (0.00 %), actual 0 (0.00 %) -> S4 to S1 switching on inhibited, effective setpoint 0 rpm, ZSW1 0360 (coast stop, no quick stop, switching on inhibited, at its setpoint, control requested)
+record 5: farm 1 sends change 07 axis 1: 30001[0..1] = 1000 3001 -> acknowledged, 0 elements stored
+record 6: farm 1 fetches -> answered: 30001[0..1]: outside its limits (error 02)
+record 7: farm 2 sends change 07 axis 1: 30001[0..1] = 1000 3001 -> refused: denied, not its axis (11)
 TXT
   ends 0 '' "$lines" explain crates/replay/stdin
   tail -n 3 "$lines" >"$lines.frames"
@@ -21,10 +21,10 @@ TXT
 
 # replayed : the lines of explain in the form of a replay, as far as they say what it says: cycles, goings back and what was refused.
 replayed() {
-  sed -nE 's/^record [0-9]+: axis ([0-9]+), .* -> .*\bS([0-9]+) [a-z ]+, (-?[0-9]+) rpm, ZSW1 ([0-9A-F]{4}) .*/c \1 S\2 \4 \3/p
+  sed -nE 's/^record [0-9]+: axis ([0-9]+), .* -> .*\bS([0-9]+) [a-z ]+(, [a-z ]+)?, effective setpoint (-?[0-9]+) rpm, ZSW1 ([0-9A-F]{4}) .*/c \1 S\2 \5 \4/p
     s/^record [0-9]+: axis .* -> refused: .* \(([0-9]+)\)$/x \1/p
     s/^record [0-9]+: farm [0-9]+ goes back .* -> refused: .* \(([0-9]+)\)$/x \1/p
-    s/^record [0-9]+: farm ([0-9]+) goes back .* -> ([0-9]+) elements stored, which is version ([0-9]+)$/g \1 \2 \3/p'
+    s/^record [0-9]+: farm ([0-9]+) goes back .* -> ([0-9]+) elements stored as version ([0-9]+)$/g \1 \2 \3/p'
 }
 
 # On a made-up journal it has a line for each record, and says what the replay says.

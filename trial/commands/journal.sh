@@ -35,7 +35,7 @@ test_journal_back() {
   { head -c 5000 "$made" && head -c 11000 "$made" | tail -c 5000; } >"$part.damaged"
   head -c 20000 /dev/urandom >"$part.random"
   : >"$part.empty"
-  for file in crates/replay/stdin "$made" "$part.cut" "$part.bad" "$part.damaged" "$part.random" "$part.empty" README.md; do
+  for file in crates/replay/stdin target/trial/journal "$made" "$part.cut" "$part.bad" "$part.damaged" "$part.random" "$part.empty" README.md; do
     there_and_back "$file"
   done
 }
@@ -60,7 +60,7 @@ test_journal_mistakes() {
   mistaken 2:23 "the setpoint is a number from -32768 to 32767, and not '40000'" 'cycle 1 047E setpoint 40000'
   mistaken 2:22 "'fault' says again what stands before it" 'cycle 1 047E fault 1 fault 2'
   mistaken 2:16 "the reference is 2 hex digits from 01 to FF, and not '00'" 'frame 1 change 00 axis 1: 30001[0] = 1'
-  mistaken 2:27 "'30001' is an array, whose elements are named too: 30001[0] to 30001[3]" "$change 30001 = 1"
+  mistaken 2:27 "'30001' is an array: name an element, 30001[0] to 30001[3]" "$change 30001 = 1"
   mistaken 2:38 "a value of 30001 is a number from 0 to 65535, and not '70000'" "$change 30001[0] = 70000"
   mistaken 2:39 "'=' is missing before '1000'" "$change 30001[0..1] 1000"
   mistaken 2:16 "'0' has an odd number of hex digits (1)" 'frame 1 hex 5F 0'

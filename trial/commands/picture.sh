@@ -25,6 +25,8 @@ test_picture_usage() {
   refused "$takes" report --picture
   refused 'llinkhiro: crates/replay/stdin: it would overwrite what it is made of' report --picture crates/replay/stdin crates/replay/stdin
   refused 'llinkhiro: target: Is a directory' report --picture target
+  refused 'llinkhiro: crates/replay/stdin: it is there and is no picture; the file to write comes before the journals' \
+    report --picture crates/replay/stdin
   lost report --picture -
 }
 

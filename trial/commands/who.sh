@@ -29,12 +29,18 @@ test_who_agrees() {
   done
 }
 
+# different : the lines without those of goings back that left an element as it was, which are told where it is asked for.
+different() {
+  grep -Ev ': (-?[0-9]+) -> \1, back to version'
+}
+
 # What is asked for is what of all attempts names it.
 test_who_wanted() {
-  local made=target/trial/made all=target/trial/made.who
+  local made=target/trial/made all=target/trial/made.who mark=' axis 3, (.* of )?PNU 30001\[1\]'
   ./llinkhiro who "$made" 3 | sed '$d' | cmp - <(grep -E ' axis 3(,|:)' "$all") || fail "who of an axis"
-  ./llinkhiro who "$made" 3 10111 | grep ' PNU ' | cmp - <(grep -E ' axis 3, PNU 10111\b' "$all") || fail "who of a parameter"
-  ./llinkhiro who "$made" 3 30001 1 | grep ' set ' | cmp - <(grep -F ' set axis 3, PNU 30001[1]: ' "$all"; tail -n 0 "$all") ||
+  ./llinkhiro who "$made" 3 10111 | grep ' PNU ' | different | cmp - <(grep -E ' axis 3, (.* of )?PNU 10111\b' "$all" | different) ||
+    fail "who of a parameter"
+  ./llinkhiro who "$made" 3 30001 1 | grep -E "$mark" | different | cmp - <(grep -E "$mark" "$all" | different) ||
     fail "who of an element"
   ./llinkhiro who "$made" 200 | tail -n 1 | grep -q '^0 set, ' || fail "who of an axis that nobody has"
 }
@@ -46,6 +52,8 @@ test_who_usage() {
   refused "who: '256' is no axis: a request can name 0 to 255" who "$week" 256
   refused "who: 'mark' is no PNU: a request can name 0 to 65535" who "$week" 1 mark
   refused "who: '65536' is no index: a request can name 0 to 65535" who "$week" 1 30001 65536
+  refused "who: examples/journals/week.text: it begins as a text does; './llinkhiro journal' makes a journal of a text" \
+    who examples/journals/week.text
   unread who @
   lost who "$week"
 }

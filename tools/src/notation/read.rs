@@ -72,16 +72,16 @@ fn only(word: Word, pnu: u16) -> Result<(u16, u8), Mistake> {
         None => Ok((0, 1)),
         Some(length) => {
             let elements = format!("{pnu}[0] to {pnu}[{}]", length - 1);
-            Err(word.is_wrong(&format!("is an array, whose elements are named too: {elements}")))
+            Err(word.is_wrong(&format!("is an array: name an element, {elements}")))
         }
     }
 }
 
 /// The first sub-index between brackets and the number of elements: `0`, `0..3` or `0;4`.
 fn elements(line: &mut Line) -> Result<(u16, u8), Mistake> {
-    let first = line.number("the sub-index", 0..=u16::MAX)?;
+    let first = line.number("the index", 0..=u16::MAX)?;
     let elements = if line.has("..") {
-        let last = line.number("the last sub-index", first..=first.saturating_add(254))?;
+        let last = line.number("the last index", first..=first.saturating_add(254))?;
         (last - first + 1) as u8
     } else if line.has(";") {
         line.number("the number of elements", 0..=u8::MAX)?
@@ -253,15 +253,12 @@ mod tests {
         assert_eq!(read("65536"), "22: the parameter is a number from 0 to 65535, and not '65536'");
         assert_eq!(read(""), "21: the parameter is missing, a number from 0 to 65535");
         assert_eq!(read("930 944"), "26: '944' is left over");
-        assert_eq!(read("30001"), "22: '30001' is an array, whose elements are named too: 30001[0] to 30001[3]");
-        assert_eq!(read("947[]"), "26: the sub-index is a number from 0 to 65535, and not ']'");
-        assert_eq!(read("947[65536]"), "26: the sub-index is a number from 0 to 65535, and not '65536'");
-        assert_eq!(read("947[3..2]"), "29: the last sub-index is a number from 3 to 257, and not '2'");
-        assert_eq!(read("947[3..258]"), "29: the last sub-index is a number from 3 to 257, and not '258'");
-        assert_eq!(
-            read("947[65535..65536]"),
-            "33: the last sub-index is a number from 65535 to 65535, and not '65536'"
-        );
+        assert_eq!(read("30001"), "22: '30001' is an array: name an element, 30001[0] to 30001[3]");
+        assert_eq!(read("947[]"), "26: the index is a number from 0 to 65535, and not ']'");
+        assert_eq!(read("947[65536]"), "26: the index is a number from 0 to 65535, and not '65536'");
+        assert_eq!(read("947[3..2]"), "29: the last index is a number from 3 to 257, and not '2'");
+        assert_eq!(read("947[3..258]"), "29: the last index is a number from 3 to 257, and not '258'");
+        assert_eq!(read("947[65535..65536]"), "33: the last index is a number from 65535 to 65535, and not '65536'");
         assert_eq!(read("947[0;256]"), "28: the number of elements is a number from 0 to 255, and not '256'");
         assert_eq!(read("947[0...1]"), "27: ']' is missing before '...'");
         assert_eq!(read("947[0"), "27: ']' is missing");

@@ -123,7 +123,7 @@ fn signs(farms: &[Farm]) -> (String, u32) {
     let counts = |farm: &Farm| [farm.all_cycles(), farm.starts.into(), farm.faults.into(), farm.denials.into()];
     let is_short = farms.iter().flat_map(counts).any(is_in_millions);
     let is_thin = farms.iter().any(|farm| bar::lengths(farm).contains(&HAIRLINE_TENTHS));
-    let mut signs = vec!["denials: tries at another farm's axis, refused"];
+    let mut signs = vec!["denials: attempts at another farm's axis"];
     signs.extend(is_short.then_some("M: millions"));
     signs.extend(is_thin.then_some("Slices too thin to see are drawn wider."));
     written(&signs)
