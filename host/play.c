@@ -15,9 +15,11 @@
 #include "llinkhiro.h"
 
 #include <errno.h>
+#include <signal.h>
 #include <stdio.h>
 #include <stdlib.h>
 #include <string.h>
+#include <sys/prctl.h>
 #include <unistd.h>
 
 enum { CYCLE = 1, FRAME, EXCHANGE, GO_BACK };
@@ -228,6 +230,8 @@ static void read_block(const char *hex)
 
 int main(int argc, char **argv)
 {
+    /* Who is told may be ended while more of the journal is waited for. */
+    prctl(PR_SET_PDEATHSIG, SIGTERM);
     if (argc != 2)
         stop("usage: play BLOCK");
     read_block(argv[1]);

@@ -1,13 +1,23 @@
 # Sourced by ../llinkhiro: the programs that its commands start, each built when it is first asked for and when its source has changed
 # since. What is built runs without a toolchain.
 
+# Where nobody hears it, nothing else is lost.
+say() {
+  echo "llinkhiro: $*" >&2 || true
+}
+
 fail() {
-  echo "llinkhiro: $*" >&2
+  say "$*"
   exit 2
 }
 
+# need_tool TOOL WHAT PROGRAM : what is built needs no toolchain, what is not does.
+need_tool() {
+  command -v "$1" >/dev/null 2>&1 || fail "$2 ('$1') is not on PATH, and $3 is not built, or not of the code that is here"
+}
+
 need_rt() {
-  command -v rt >/dev/null 2>&1 || fail "the Rattle toolchain ('rt') is not on PATH, and $1 is not built, or not of the code that is here"
+  need_tool rt 'the Rattle toolchain' "$1"
 }
 
 # How programs for the library's processor are built, and the words that start them, if any. Somebody who only asks for help needs none.
@@ -45,7 +55,7 @@ tell_proved() {
   while read -r who crate word _; do
     if [ "$who $word" = 'rt: proved' ]; then
       count=$((count + 1))
-      echo "llinkhiro: $count of $of proved: $crate" >&2
+      say "$count of $of proved: $crate"
     fi
   done
 }
@@ -55,7 +65,7 @@ current_program() {
   local program=target/bin/$1 log=target/$1.log
   stale_code "$program" || return 0
   need_rt "$1"
-  echo "llinkhiro: proving and building $1; this takes some minutes the first time" >&2
+  say "proving and building $1; this takes some minutes the first time"
   mkdir -p target
   rt check "$1" 2>&1 </dev/null | tee "$log" | tell_proved "$(proved_for "$1")" ||
     { cat "$log" >&2; fail "$1 was not built"; }
@@ -75,7 +85,7 @@ library() {
 # The library as it was built last, where no code has changed since.
 current_library() {
   stale_code "$archive" || return 0
-  echo "llinkhiro: proving and building the library; this takes some minutes the first time" >&2
+  say "proving and building the library; this takes some minutes the first time"
   library
   touch "$archive"
 }
@@ -103,12 +113,14 @@ current_tools() {
 
 # built_by_cargo PACKAGE FOLDER
 built_by_cargo() {
-  need cargo cargo </dev/null
+  need_tool cargo 'Rust, 1.82 or later' "$1"
   CARGO_TARGET_DIR=$2 cargo build --quiet --release --offline --manifest-path "$1/Cargo.toml" </dev/null >&2 || fail "$1 was not built"
 }
 
-# The tests that call the library from outside, built in a folder, and what makes their calls.
+# The tests that call the library from outside, and what makes their calls.
 current_trials() {
   current_tools
-  built_by_cargo trial "${1:-target/trial}"
+  stale target/trial/release/differential {trial,tools,twin}/src {trial,tools,twin}/Cargo.toml || return 0
+  built_by_cargo trial target/trial
+  touch target/trial/release/differential
 }

@@ -89,6 +89,46 @@ llinkhiro: $out was not written" ] || fail "'$*' of a full disk: status $status,
   [ "$(echo "$out"*) $(cat "$out")" = "$out before" ] || fail "'$*' leaves something behind: $(ls "$out"*)"
 }
 
+# ended COMMAND ARGUMENT.. : what ends a command that follows a pipe ends all that it runs, and leaves no file. OUT is the file to write.
+ended() {
+  local out=target/trial/out pipe=target/trial/pipe signal pid
+  for signal in TERM HUP INT; do
+    rm -f "$out"* "$pipe"* && mkfifo "$pipe.in"
+    # In the background a signal from the keyboard is not heard, so it is undone here.
+    (trap - INT && exec ./llinkhiro "${@//OUT/$out}" <"$pipe.in" >"$pipe.told" 2>&1) &
+    pid=$!
+    exec 8>"$pipe.in"
+    head -c 27 crates/replay/stdin >&8
+    until_running "$pipe.in" 2
+    kill -s "$signal" "$pid"
+    wait "$pid" && fail "'$*' goes on after $signal"
+    until_running "$pipe.in" 0
+    exec 8>&-
+    [ "$(echo "$out"*)" = "$out*" ] || fail "'$*' leaves a file after $signal: $(ls "$out"*)"
+  done
+}
+
+# until_running PIPE COUNT : waits until so many programs read a pipe, or none.
+until_running() {
+  local tries count
+  for ((tries = 0; tries < 200; tries++)); do
+    count=$(readers "$1")
+    if [ "$2" = 0 ] && [ "$count" = 0 ]; then return; fi
+    if [ "$2" -gt 0 ] && [ "$count" -ge "$2" ]; then return; fi
+    sleep 0.1
+  done
+  fail "$count programs read a pipe, and not $2"
+}
+
+# readers PIPE : how many programs have it for their standard input.
+readers() {
+  local input count=0
+  for input in /proc/[0-9]*/fd/0; do
+    if [ "$input" -ef "$1" ]; then count=$((count + 1)); fi
+  done
+  echo "$count"
+}
+
 # shellcheck source=/dev/null
 for part in trial/commands/*.sh; do . "$part"; done
 
@@ -158,9 +198,49 @@ test_progress() {
   progresses slowly "$mb" ./llinkhiro journal --text - "$out"
   progresses slowly "$mb" ./llinkhiro capture - "$out"
   progresses slowly "$mb" ./llinkhiro replay -
-  progresses slowly "$mb" ./llinkhiro report --picture "$out" -
+  progresses slowly "$mb" ./llinkhiro report --picture "$out.svg" -
   progresses true '\\rtarget/trial/journal: [0-9]+ % of [0-9]+ MB' ./llinkhiro explain target/trial/journal
   progresses true '[0-9] s, [0-9]+ calls' target/trial/release/differential --calls 100000
+}
+
+test_ended() {
+  ended who -
+  ended journal --text - OUT
+  ended capture - OUT
+  ended replay -
+  ended report --picture OUT -
+}
+
+# unfed SAID COMMAND ARGUMENT.. : a command whose standard input is closed says this and ends. (A substitution would open a pipe in its place.)
+unfed() {
+  local status=0 said=target/trial/said
+  timeout 60 ./llinkhiro "${@:2}" <&- >/dev/null 2>"$said" || status=$?
+  [ "$status $(cat "$said")" = "$([ -z "$1" ] && echo 0 || echo 2) $1" ] || fail "'${*:2}' unfed: status $status, $(cat "$said")"
+}
+
+# What is closed is not taken for something else, and what cannot be said costs nothing.
+test_closed() {
+  local out=target/trial/out journal=crates/replay/stdin status
+  rm -f "$out"
+  unfed 'llinkhiro: standard input is closed' who -
+  unfed 'llinkhiro: standard input is closed' replay -
+  unfed 'llinkhiro: standard input is closed' report --picture "$out" -
+  unfed '' report --picture "$out"
+  rm -f "$out"
+  ./llinkhiro capture "$journal" "$out" 2>/dev/full && [ -s "$out" ] || fail "a capture is lost with what is said of it"
+  ./llinkhiro who "$journal" <&- 2>&- | cmp - <(./llinkhiro who "$journal") || fail "who with nothing but output"
+  for status in full null; do
+    if ./llinkhiro who none 2>"/dev/$status"; then fail "who of no file"; else [ $? = 2 ] || fail "who of no file, which nobody hears"; fi
+  done
+}
+
+# Names of files to write that are none.
+test_out() {
+  local week=target/trial/week.journal
+  refused 'llinkhiro: the name of the file to write is empty' journal "$week" ''
+  refused 'llinkhiro: target/none/: there is no such folder' journal "$week" target/none/
+  refused 'llinkhiro: target/a: its name ends with a line end' journal "$week" $'target/a\n'
+  ends 0 '' <(./llinkhiro journal "$week") journal "$week" /dev/stdout
 }
 
 test_commands() {
@@ -178,5 +258,8 @@ test_commands() {
   test_picture
   test_usage
   test_anywhere
+  test_closed
+  test_out
+  test_ended
   test_progress
 }

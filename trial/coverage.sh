@@ -38,4 +38,3 @@ covered() {
   echo
   python3 trial/coverage.py target/coverage/{differential,twin-replay,twin-report}.json
 }
-

@@ -76,9 +76,8 @@ gate() {
   listed
   need_rt "nothing"
   rt fmt --check
-  log=$(mktemp)
-  trap 'rm -f "$log"' EXIT
-  rt ci | tee "$log"
+  noted
+  rt ci | tee "$notes/ci"
   library
   host/run "$archive" include
   current_trials
@@ -89,7 +88,7 @@ gate() {
   test_commands
   test_plain
   target/trial/release/differential --calls "$calls"
-  tail -n 1 "$log"
+  tail -n 1 "$notes/ci"
 }
 
 # shellcheck source=trial/commands.sh

@@ -225,9 +225,11 @@ fn elements<'a>(address: &'a Address, values: &'a Values) -> impl Iterator<Item 
     (u32::from(address.sub_index)..).map(element).zip(values)
 }
 
-/// What an address asks for: each element by itself, where it has a value. 0 elements count as 1.
+/// What an address asks for: each element by itself, where it has a value. 0 elements count as 1, but not in an array.
 fn targets(address: &Address, values: &Values) -> Vec<Target> {
-    if values.values.len() != usize::from(address.elements.max(1)) {
+    let of_array = Parameter::find(address.pnu).is_some_and(|parameter| parameter.array_length().is_some());
+    let count = if of_array { address.elements } else { address.elements.max(1) };
+    if count == 0 || values.values.len() != usize::from(count) {
         return vec![Target::Address(*address, values.clone())];
     }
     elements(address, values).map(|(element, value)| Target::Element(element, value)).collect()

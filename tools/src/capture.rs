@@ -29,7 +29,7 @@ pub fn run(arguments: &[OsString]) -> Result<Ended, String> {
         output.bytes(&packets::of(&exchanges))
     })?;
     output.flush()?;
-    eprintln!("{tally}");
+    command::say(format_args!("{tally}\n"));
     Ok(length.ended(&name))
 }
 

@@ -20,6 +20,11 @@ pub enum Ended {
     Bad,
 }
 
+/// Says something on standard error. Where nobody hears it, nothing else is lost.
+pub fn say(words: impl Display) {
+    let _ = write!(io::stderr(), "{words}");
+}
+
 /// Why something failed, in the system's words and without its number.
 pub fn reason(error: &io::Error) -> String {
     let words = error.to_string();
@@ -152,7 +157,7 @@ impl Length {
         if !self.bad {
             return Ended::Good;
         }
-        eprintln!("{name}: record {} is bad", self.records + 1);
+        say(format_args!("{name}: record {} is bad\n", self.records + 1));
         Ended::Bad
     }
 }

@@ -9,13 +9,13 @@
 
 use std::ffi::OsString;
 use std::process::ExitCode;
-use tools::command::Ended;
+use tools::command::{say, Ended};
 use tools::{capture, check, explain, picture, text, versions, who};
 
 fn main() -> ExitCode {
     let arguments: Vec<OsString> = std::env::args_os().skip(1).collect();
     let Some((command, arguments)) = arguments.split_first() else {
-        eprintln!("usage: tell COMMAND ARGUMENT..");
+        say("usage: tell COMMAND ARGUMENT..\n");
         return ExitCode::from(2);
     };
     let name = command.to_string_lossy();
@@ -33,7 +33,7 @@ fn main() -> ExitCode {
         Ok(Ended::Good) => ExitCode::SUCCESS,
         Ok(Ended::Bad) => ExitCode::FAILURE,
         Err(trouble) => {
-            eprintln!("{name}: {trouble}");
+            say(format_args!("{name}: {trouble}\n"));
             ExitCode::from(2)
         }
     }

@@ -1,5 +1,6 @@
 //! How far long work is: a line on a terminal, written over and over and taken away at the end. None goes into a pipe.
 
+use crate::command::say;
 use std::io::{self, IsTerminal};
 use std::time::{Duration, Instant};
 
@@ -29,7 +30,7 @@ impl Progress {
     /// Writes the line, if it is time.
     pub fn tell(&mut self, line: impl FnOnce() -> String) {
         if self.next.is_some_and(|next| Instant::now() >= next) {
-            eprint!("\r{}\x1B[K", line());
+            say(format_args!("\r{}\x1B[K", line()));
             self.shown = true;
             self.next = Some(Instant::now() + Progress::STEP);
         }
@@ -45,7 +46,7 @@ impl Default for Progress {
 impl Drop for Progress {
     fn drop(&mut self) {
         if self.shown {
-            eprint!("\r\x1B[K");
+            say("\r\x1B[K");
         }
     }
 }

@@ -3,6 +3,7 @@
 use crate::command::{self, Ended, Journal, Output};
 use crate::history::History;
 use std::ffi::{OsStr, OsString};
+use twin::AXES;
 
 /// The command, given a journal and a farm.
 pub fn run(arguments: &[OsString]) -> Result<Ended, String> {
@@ -22,9 +23,9 @@ pub fn run(arguments: &[OsString]) -> Result<Ended, String> {
     Ok(length.ended(&name))
 }
 
-/// The farm, or axis, that an argument is.
-pub fn farm_of(typed: &OsStr) -> Result<u8, String> {
+/// The farm that an argument is.
+fn farm_of(typed: &OsStr) -> Result<u8, String> {
     let farm = typed.to_str().and_then(|typed| typed.parse().ok());
-    farm.filter(|farm| (1..=16).contains(farm))
-        .ok_or_else(|| format!("there is no farm '{}': they are 1 to 16", typed.to_string_lossy()))
+    farm.filter(|farm| (1..=AXES as u8).contains(farm))
+        .ok_or_else(|| format!("there is no farm '{}': they are 1 to {AXES}", typed.to_string_lossy()))
 }

@@ -271,6 +271,14 @@ mod tests {
             ["PNU 30001[0..1] = 1: wrong number of values (error 18)"]
         );
         assert_eq!(failed("10 01 27 7F 00 00 42 00", 24), ["PNU 10111 = none: wrong number of values (error 18)"]);
+        assert_eq!(
+            failed("10 00 75 31 00 02 42 01 00 01", 22),
+            ["PNU 30001[2;0] = 1: address is not permitted (error 16)"]
+        );
+        assert_eq!(
+            failed("10 00 27 7F 00 00 42 01 00 00", 2),
+            ["PNU 10111 = 0: outside its limits, 1 to 60000 (error 02)"]
+        );
         let many = format!("10 01 27 7F 00 00 41 0A {}", "01 02 03 04 05 06 07 08 09 0A");
         assert_eq!(failed(&many, 5), ["PNU 10111 = 1 2 3 4 5 6 7 8 .. (10 values): wrong format (error 05)"]);
     }

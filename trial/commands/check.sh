@@ -127,4 +127,3 @@ test_check() {
   test_check_outside
   test_check_unserved
 }
-

@@ -89,4 +89,3 @@ test_versions() {
   test_versions_back
   test_versions_made
 }
-

@@ -1,7 +1,7 @@
 //! The lines of `report`, read: a season's counts.
 
 /// Farms of a station.
-pub const FARMS: usize = 16;
+const FARMS: usize = twin::AXES;
 
 /// The states, in the order in which `report` counts them.
 pub const STATES: [u8; 6] = [1, 2, 3, 4, 51, 52];

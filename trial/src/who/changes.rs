@@ -7,7 +7,7 @@ use std::mem;
 use std::ops::Range;
 use tools::layout::{Block, Values};
 use tools::sending::{FAILED, WRITE};
-use twin::Address;
+use twin::{Address, Parameter};
 
 /// Identifier of a change, and of a response to one that stored all.
 const CHANGE: u8 = 0x02;
@@ -71,10 +71,12 @@ fn errors(addresses: usize, response: &[u8]) -> Option<Vec<Option<Why>>> {
     }
 }
 
-/// The indices of the elements that values were sent to; none where these are not as many. 0 elements count as 1.
+/// The indices of the elements that values were sent to; none where these are not as many. 0 elements count as 1, but not in an array.
 fn indices(address: &Address, values: &Values) -> Option<Range<u32>> {
+    let is_array = Parameter::find(address.pnu).is_some_and(|parameter| parameter.array_length().is_some());
     let (first, elements) = (u32::from(address.sub_index), u32::from(address.elements.max(1)));
-    (values.values.len() == elements as usize).then_some(first..first + elements)
+    let as_many = values.values.len() == elements as usize && !(is_array && address.elements == 0);
+    as_many.then_some(first..first + elements)
 }
 
 fn not_stored(address: &Address, values: &Values, why: Why) -> Vec<What> {
