@@ -153,18 +153,8 @@ fn settings_lines(values: Vec<String>) -> [String; 2] {
 mod tests {
     use super::*;
     use crate::journal::Inputs;
+    use crate::played::made_up::{but, FRESH};
     use crate::settings;
-
-    const FRESH: [i32; 18] = [0, 0, 0, 0, 0, 0, 0, 0, 0, 1500, 0, 0, 0, 0, 164, 16384, 0, 0];
-
-    /// The fresh settings but for some elements.
-    fn but(others: &[(usize, i32)]) -> Vec<i32> {
-        let mut settings = FRESH.to_vec();
-        for (element, value) in others {
-            settings[*element] = *value;
-        }
-        settings
-    }
 
     /// So many whole records.
     fn length(records: u64) -> Length {

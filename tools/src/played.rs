@@ -205,6 +205,16 @@ pub mod made_up {
     use crate::journal::Inputs;
     use crate::sending::Sending;
 
+    /// All settings of a fresh farm.
+    pub const FRESH: [i32; 18] = [0, 0, 0, 0, 0, 0, 0, 0, 0, 1500, 0, 0, 0, 0, 164, 16384, 0, 0];
+
+    /// The fresh settings but for some elements.
+    pub fn but(others: &[(usize, i32)]) -> Vec<i32> {
+        let mut settings = FRESH.to_vec();
+        others.iter().for_each(|(element, value)| settings[*element] = *value);
+        settings
+    }
+
     fn played(record: Record, answer: Answer) -> Played {
         Played { place: 7, record, answer, after: None }
     }

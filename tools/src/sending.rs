@@ -1,6 +1,7 @@
 //! Frames of a farm, and the two calls that take one.
 
 use crate::face::{self, Framed};
+use crate::layout::Block;
 use std::fmt::{self, Display, Formatter};
 use twin::Station;
 
@@ -14,6 +15,14 @@ pub const FAILED: u8 = 0x80;
 pub const INDEX: u8 = 47;
 /// The read that fetches any response.
 pub const FETCH: [u8; 4] = [READ, 0, INDEX, 240];
+
+/// The request in a write that is right; none where a frame is none.
+pub fn request_in(frame: &[u8]) -> Option<Block> {
+    match frame {
+        [WRITE, 0, INDEX, length, block @ ..] if usize::from(*length) == block.len() => Block::of_request(block),
+        _ => None,
+    }
+}
 
 /// How a frame is sent.
 #[derive(Clone, Copy, Debug, PartialEq, Eq)]

@@ -166,17 +166,8 @@ fn why(target: &Target, outcome: &Outcome) -> String {
 #[cfg(test)]
 mod tests {
     use super::*;
-    use crate::played::made_up::{frame, going_back, leaving};
+    use crate::played::made_up::{but, frame, going_back, leaving, FRESH};
     use crate::sending::Sending;
-
-    const FRESH: [i32; 18] = [0, 0, 0, 0, 0, 0, 0, 0, 0, 1500, 0, 0, 0, 0, 164, 16384, 0, 0];
-
-    /// The fresh settings but for some elements.
-    fn but(others: &[(usize, i32)]) -> Vec<i32> {
-        let mut settings = FRESH.to_vec();
-        others.iter().for_each(|(element, value)| settings[*element] = *value);
-        settings
-    }
 
     fn wanted(typed: &[&str]) -> Result<Wanted, String> {
         Wanted::read(&typed.iter().map(OsString::from).collect::<Vec<_>>())

@@ -7,7 +7,7 @@ use crate::layout::{Block, Side, Values, CHANGE, HEADER};
 use crate::names::{self, UNREADABLE};
 use crate::notation;
 use crate::played::Framed;
-use crate::sending::{Sending, FETCH, INDEX, READ, WRITE};
+use crate::sending::{request_in, Sending, FETCH, INDEX, READ};
 use crate::words::counted;
 use twin::Address;
 
@@ -18,7 +18,7 @@ pub(super) struct Waiting(Option<Block>);
 impl Waiting {
     /// A frame with its answer.
     pub(super) fn told(&mut self, sending: Sending, frame: &[u8], framed: &Framed) -> String {
-        let asked = asked(frame);
+        let asked = request_in(frame);
         let sent = sent(sending, frame, asked.as_ref());
         let answer = match framed.number {
             0 => self.done(sending, asked, framed),
@@ -54,14 +54,6 @@ fn frame_refused(number: u8, frame: &[u8]) -> String {
             format!("refused: {}, {fault} ({number})", names::refusal(number, false))
         }
         _ => refused(number, frame.first() == Some(&READ)),
-    }
-}
-
-/// The request in a write that is one.
-fn asked(frame: &[u8]) -> Option<Block> {
-    match frame {
-        [WRITE, 0, INDEX, length, block @ ..] if usize::from(*length) == block.len() => Block::of_request(block),
-        _ => None,
     }
 }
 

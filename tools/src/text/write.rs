@@ -3,9 +3,8 @@
 use crate::command::Length;
 use crate::hex;
 use crate::journal::{self, length_of, Inputs, Next, Record};
-use crate::layout::Block;
 use crate::notation;
-use crate::sending::{Sending, FETCH, INDEX, READ, WRITE};
+use crate::sending::{request_in, Sending, FETCH, INDEX, READ};
 use std::io::{self, BufReader, Read};
 
 /// Bytes in a line of what is no record.
@@ -117,18 +116,18 @@ fn cycle(axis: u8, Inputs { flags, stw1, nsoll, nist, fault }: Inputs) -> String
 
 /// A frame in words, where they say all of it, or in hex.
 fn frame(frame: &[u8]) -> String {
-    let block = match frame {
-        _ if *frame == FETCH => return "fetch".to_string(),
-        [READ, 0, INDEX, wanted] => return format!("fetch {wanted}"),
-        [WRITE, 0, INDEX, length, block @ ..] if usize::from(*length) == block.len() => Block::of_request(block),
-        _ => None,
-    };
-    block.map_or_else(|| format!("hex{}", hex::spaced(frame)), |block| notation::request(&block))
+    match (frame, request_in(frame)) {
+        (_, Some(block)) => notation::request(&block),
+        (frame, _) if *frame == FETCH => "fetch".to_string(),
+        ([READ, 0, INDEX, wanted], _) => format!("fetch {wanted}"),
+        _ => format!("hex{}", hex::spaced(frame)),
+    }
 }
 
 #[cfg(test)]
 mod tests {
     use super::*;
+    use crate::sending::WRITE;
 
     fn cycle_line(flags: u32, nsoll: i16, nist: i16, fault: u16) -> String {
         line(&Record::Cycle(255, Inputs { flags, stw1: 0x4F, nsoll, nist, fault }))
