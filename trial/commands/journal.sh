@@ -27,6 +27,9 @@ TXT
   grep -v '^#' examples/journals/week.text | grep . >"$text.week"
   ends 0 '' "$text.week" journal target/trial/week.journal
   shown "$text.week"
+  # The example of its help is a text.
+  sed -n '/# Farm 1 starts/,/^$/s/^    //p' tools/help/journal.txt >"$text.help"
+  [ "$(./llinkhiro journal "$text.help" | ./llinkhiro journal - | wc -l)" = 5 ] || fail "the example of journal's help"
 }
 
 # Journals of every sort: made up, damaged, and no journals at all.
