@@ -7,6 +7,8 @@ use twin::{Address, Parameter, Type};
 
 /// Attribute of values.
 const VALUE: u8 = 0x10;
+/// So many values of an address must be told before the rest may be counted alone.
+const SHOWN: usize = 8;
 
 /// A line that must be there.
 #[derive(Clone, Debug)]
@@ -80,8 +82,8 @@ impl What {
 }
 
 impl Sent {
-    /// An address may be named in any words with its number. Beside an element words may stand only where its value is
-    /// not meant.
+    /// An address may be named in any words with its number. Before an element words may stand only where its value is
+    /// not meant, and behind it none.
     fn is_named(&self, name: &str) -> bool {
         let Address { attribute, pnu, .. } = self.address;
         let Some(named) = name.find("PNU ").map(|at| &name[at..]) else { return false };
@@ -89,7 +91,7 @@ impl Sent {
             Some(index) => {
                 let is = |element: String| match named.strip_prefix(&element) {
                     Some(_) if attribute == VALUE => name == element,
-                    rest => rest.is_some_and(|rest| rest.is_empty() || rest.starts_with(' ')),
+                    rest => rest.is_some_and(str::is_empty),
                 };
                 is(element_name(pnu, index)) || is(indexed_name(pnu, index))
             }
@@ -100,8 +102,8 @@ impl Sent {
         }
     }
 
-    /// All values, or words that say that there is none. Of an address it may also be the first values, and words
-    /// behind them with no other number than how many there are.
+    /// All values, or words that say that there is none. Of an address it may also be the first values, at least `SHOWN`,
+    /// and words behind them with no other number than how many there are.
     fn has_values(&self, told: &str) -> bool {
         let values: Vec<i64> = told.split(' ').map_while(number).collect();
         let words = told.split(' ').skip(values.len()).collect::<Vec<_>>().join(" ");
@@ -110,7 +112,9 @@ impl Sent {
         self.values.iter().zip(&values).all(is_read)
             && match left {
                 Some(0) => numbers(&words).is_empty() && (words.is_empty() || values.is_empty()),
-                Some(_) => self.index.is_none() && numbers(&words) == [self.values.len().to_string()],
+                Some(_) => {
+                    self.index.is_none() && values.len() >= SHOWN && numbers(&words) == [self.values.len().to_string()]
+                }
                 None => false,
             }
     }
@@ -191,18 +195,32 @@ mod tests {
         let simple = sent(address(0x10, 9900), Some(0), &[[5, 5]]);
         assert_told(&simple, &["PNU 9900 = 5", "PNU 9900[0] = 5"], &["PNU 9900[1] = 5", "PNU 990 = 5", "9900 = 5"]);
         let text = sent(address(0x30, 30001), Some(2), &[[5, 5]]);
-        let named = ["text of PNU 30001[2] = 5", "PNU 30001[2] = 5", "PNU 30001[2] by text = 5"];
-        assert_told(&text, &named, &["text of PNU 30001 = 5", "PNU 30001[2]0 = 5", "text = 5", "PNU 30001[2] = 5 6"]);
+        let others = [
+            "text of PNU 30001 = 5",
+            "PNU 30001[2]0 = 5",
+            "text = 5",
+            "PNU 30001[2] = 5 6",
+            "PNU 30001[2] by text = 5",
+        ];
+        assert_told(&text, &["text of PNU 30001[2] = 5", "PNU 30001[2] = 5"], &others);
     }
 
     #[test]
     fn how_an_address_is_named() {
         let address = Address { elements: 2, ..address(0x10, 3000) };
         let due = sent(address, None, &[[5, 5], [255, -1], [0, 0]]);
-        let named = ["PNU 3000[0..1] = 5 255 0", "all of PNU 3000 = 5 -1 0", "PNU 3000 = 5 .. (3 values)"];
+        let named = ["PNU 3000[0..1] = 5 255 0", "all of PNU 3000 = 5 -1 0"];
         assert_told(&due, &named, &["PNU 30001 = 5 255 0", "3000 = 5 255 0", "PNU 3000 = 5 255", "PNU 3000 = 5 254 0"]);
-        let shortened = ["5 255 ..", "5 254 .. (3 values)", "5 .. (2 values)", "5 255 0 .. (3 values)", "5 255 0 1"];
+        let shortened = ["5 255 ..", "5 255 .. (3 values)", "5 .. (2 values)", "5 255 0 .. (3 values)", "5 255 0 1"];
         assert_told(&due, &[], &shortened.map(|values| format!("PNU 3000 = {values}")).each_ref().map(String::as_str));
+        let many = sent(address, None, &[[5, 5]; 10]);
+        let (seven, eight) = ("PNU 3000 = 5 5 5 5 5 5 5", "PNU 3000 = 5 5 5 5 5 5 5 5");
+        let lines = |begin: &str, ends: [&str; 3]| ends.map(|end| format!("{begin}{end}"));
+        let untold =
+            [lines(seven, [" .. (10 values)", " 6 .. (10 values)", ""]), lines(eight, [" .. (9 values)", " ..", ""])]
+                .concat();
+        let untold: Vec<&str> = untold.iter().map(String::as_str).collect();
+        assert_told(&many, &["PNU 3000 = 5 5 5 5 5 5 5 5 .. (10 values)"], &untold);
         let none = sent(address, None, &[]);
         assert_told(&none, &["PNU 3000[0..1] = ", "PNU 3000[0..1]", "PNU 3000 = nothing"], &["PNU 3000[0..1] = 0"]);
     }
