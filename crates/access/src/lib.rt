@@ -1,4 +1,6 @@
 // A block worked on an axis's part.
+#![tactic(auto)]
+
 ghost use Rattle.std.specs.Prelude.{◌≡◌};
 ghost use Rattle.access.specs.Work.{outcome_of};
 

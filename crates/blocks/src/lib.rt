@@ -1,4 +1,6 @@
 // Request and response blocks: which are readable, what stands where in one, and how a response is written.
+#![tactic(auto)]
+
 ghost use Rattle.std.specs.Prelude.{◌≡◌, ◌||◌, ◌+◌, ◌≤◌, eqb, length, get_or, drop};
 ghost use Rattle.codes.specs.Code.{is_whole, times, readable};
 ghost use Rattle.blocks.specs.Block.{block_limit, value_size, change_block_fits, response_block_fits, block};

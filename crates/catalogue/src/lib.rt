@@ -1,4 +1,6 @@
 // The catalogue of an axis's parameters, and their elements in the bytes of a part.
+#![tactic(auto)]
+
 ghost use Rattle.std.specs.Prelude.{◌≡◌, ◌&&◌, take, drop};
 ghost use Rattle.std.specs.Int.Signed.{le_z};
 ghost use Rattle.catalogue.specs.Table.{element_size, rows, row_at, find_in, find_of};

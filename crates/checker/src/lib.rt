@@ -1,4 +1,6 @@
 // Whether a response answers a request (document 02, R-4), on two blocks of any bytes and any length.
+#![tactic(auto)]
+
 ghost use Rattle.std.specs.Prelude.{◌≡◌, ◌+◌, ◌≤◌};
 ghost use Rattle.blocks.specs.Block.{values_size};
 ghost use Rattle.checker.specs.Check.{matching, count_fits, counts_fit, compared, check_of};

@@ -1,4 +1,6 @@
 // Numbers in byte slices, high byte first, and tests that the codecs share.
+#![tactic(auto)]
+
 ghost use Rattle.std.specs.Prelude.{◌≡◌, ◌&&◌, ◌||◌, ◌+◌, ◌≤◌, length, drop, leb};
 ghost use Rattle.codes.specs.Code.{got, word};
 ghost use Rattle.codes.specs.Number.{number_at, put, signed_of, bits_of};

@@ -1,4 +1,6 @@
 // The worked cycles of document 01, and both sides of each limit of its control cycle: a line for each.
+#![tactic(auto)]
+
 ghost use Rattle.std.specs.Prelude.{◌<◌};
 ghost use Rattle.drive.specs.Faults.{situations};
 

@@ -1,4 +1,6 @@
 // The control cycle of one axis.
+#![tactic(auto)]
+
 ghost use Rattle.std.specs.Prelude.{◌≡◌};
 ghost use Rattle.drive.specs.Cycle.{word_used, setpoint_used, effective_of, cycle_of, fresh_drive};
 ghost use Rattle.drive.specs.Motion.{motion_of, with_faults, moved_of, quiet_of};

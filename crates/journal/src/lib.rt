@@ -1,4 +1,6 @@
 // One record of a journal, played on a station: what it did, and its line.
+#![tactic(auto)]
+
 ghost use Rattle.std.specs.Prelude.{◌≡◌, ◌++◌, ◌≤◌, length, drop};
 ghost use Rattle.codes.specs.Number.{put};
 ghost use Rattle.station.specs.Calls.{kinds};

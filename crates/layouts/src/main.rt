@@ -1,4 +1,6 @@
 // The layouts of document 01's request and response blocks, with 02's R-2, and both sides of each of their limits: a line for each case.
+#![tactic(auto)]
+
 ghost use Rattle.std.specs.Prelude.{◌≤◌};
 
 use blocks::reader::{Address, FIRST, Step, address_at};

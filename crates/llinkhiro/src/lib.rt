@@ -1,5 +1,7 @@
 // The calls of a host, exported as one library: each is one call of a crate below, and promises what a host is handed of it. No other
 // crate exports.
+#![tactic(auto)]
+
 ghost use Rattle.std.specs.Prelude.{◌≡◌};
 ghost use Rattle.checker.specs.Check.{check_of};
 ghost use Rattle.station.specs.Parts.{station_size, fresh_number, fresh_station};

@@ -1,5 +1,6 @@
 // One axis's part of the station's memory: the layout, a fresh part, the drive record in and out, the response that waits, and the
 // versions of the settings.
+#![tactic(auto)]
 
 mod form; // form.rt: the rule for a well-formed part
 mod numbers; // numbers.rt: the numbers of the versions

@@ -1,6 +1,8 @@
 // Plays journals on a fresh station: from standard input, or from the files that the arguments name, one after the other, as
 // one journal; `-` is standard input. A record does not go on from one file into the next. What is no record ends the run, and
 // so does what cannot be read or written: it is named on standard error, where nothing else is said.
+#![tactic(auto)]
+
 mod arguments; // arguments.rt: the files that the arguments name
 mod file; // file.rt: the records of a file
 mod out; // out.rt: lines, collected and written

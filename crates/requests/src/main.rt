@@ -1,5 +1,7 @@
 // Requests worked on one axis's part: the worked examples of document 01, both sides of its limits, what 02's R-2 and R-6 ask, and each
 // error in front of the next.
+#![tactic(auto)]
+
 ghost use Rattle.std.specs.Prelude.{◌≤◌};
 
 use blocks::reader::{Address, FIRST};

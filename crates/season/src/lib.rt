@@ -1,4 +1,6 @@
 // A season report over a journal: ten counts for each farm, and the text of them.
+#![tactic(auto)]
+
 ghost use Rattle.std.specs.Prelude.{◌≡◌};
 ghost use Rattle.journal.specs.Line.{record_after};
 ghost use Rattle.season.specs.Season.{step_of};

@@ -1,4 +1,6 @@
 // Records counted over given totals, where no journal is long enough to bring them: each of a farm's ten counts to 2^64 - 1, and to 2^64.
+#![tactic(auto)]
+
 use season::{COUNTS, EACH, Turn};
 
 type Station = [u8; station::STATION];

@@ -1,4 +1,6 @@
 // The station: 16 parts in memory that the caller lends, and the calls on them.
+#![tactic(auto)]
+
 ghost use Rattle.std.specs.Prelude.{◌≡◌};
 ghost use Rattle.station.specs.Parts.{station_size, station_refusal, fresh_number, fresh_station};
 ghost use Rattle.station.specs.Isolation.{answer, after};

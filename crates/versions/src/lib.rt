@@ -1,4 +1,5 @@
 // One farm's versions: the last 16 of its settings, in the bytes of its part.
+#![tactic(auto)]
 
 mod keep; // keep.rt: settings into a slot and back
 mod limits; // limits.rt: whether they lie inside the limits

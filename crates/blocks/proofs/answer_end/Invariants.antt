@@ -1,0 +1,10 @@
+-- The walk goes on over the blocks that are left, stops where none stands, and ends after the last.
+use Rattle.blocks.specs.Block.{response_block_fits}
+use Rattle.blocks.proofs.Turns.{Walking}
+use Rattle.blocks.proofs.answer_end.Given as goal
+
+abbrev pub invariant-loop-left : goal.invariant-loop-left
+invariant-loop-left l = Walking (response_block_fits l.id) l.s l.from l.n l.at l.left l.error
+
+abbrev pub decreases-loop-left : goal.decreases-loop-left
+decreases-loop-left l = l.left

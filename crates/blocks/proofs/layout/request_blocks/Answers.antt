@@ -1,0 +1,12 @@
+-- A block for each parameter, or none, by the identifier.
+use Rattle.blocks.specs.Request.{request_blocks}
+use borrow.Author.Tests.{eq-eqb, ne_eqb}
+use Rattle.blocks.proofs.layout.request_blocks.Goals as goal
+
+pub returns-then-id-eq2 : goal.returns-then-id-eq2
+unfolding request_blocks
+returns-then-id-eq2 c = simp (eq-eqb _ _ c.if-id-eq2.true) c.wide.ensures
+
+pub returns-else-id-eq2 : goal.returns-else-id-eq2
+unfolding request_blocks
+returns-else-id-eq2 c = simp (ne_eqb _ _ c.if-id-eq2.false)

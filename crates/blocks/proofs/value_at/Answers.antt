@@ -1,0 +1,41 @@
+-- The j-th value stands after the block's two bytes and j values.
+use Rattle.blocks.specs.Block.{change_block_fits}
+use Rattle.blocks.proofs.Blocks.{block_stands, value_nowhere, value_past, value_room, value_here}
+use mathlib.Core.Path.{sym, ◌∙◌}
+use native.Mathlib.Omega.{arith}
+use Rattle.blocks.proofs.value_at.Goals as goal
+
+pub returns-in_default : goal.returns-in_default
+returns-in_default c =
+    let a = c.args in
+    value_nowhere a.s.now a.at a.j (sym c.block_at-b.ensures ∙ c.in_default.is)
+
+pub overflow_add-at : goal.overflow_add-at
+overflow_add-at c =
+    let a = c.args in
+    let st = block_stands change_block_fits a.s.now a.at c.in-Stands.h (sym c.block_at-b.ensures ∙ c.in-Stands.is) in
+    omega (arith, value_room a.s.now a.at a.j c.in-Stands.h st (omega arith))
+
+pub overflow_mul-j : goal.overflow_mul-j
+overflow_mul-j c =
+    let a = c.args in
+    let st = block_stands change_block_fits a.s.now a.at c.in-Stands.h (sym c.block_at-b.ensures ∙ c.in-Stands.is) in
+    omega (arith, value_room a.s.now a.at a.j c.in-Stands.h st (omega arith))
+
+pub overflow_add-at-then-j-wide : goal.overflow_add-at-then-j-wide
+overflow_add-at-then-j-wide c =
+    let a = c.args in
+    let st = block_stands change_block_fits a.s.now a.at c.in-Stands.h (sym c.block_at-b.ensures ∙ c.in-Stands.is) in
+    omega (arith, value_room a.s.now a.at a.j c.in-Stands.h st (omega arith))
+
+pub returns-then-j-wide : goal.returns-then-j-wide
+returns-then-j-wide c =
+    let a = c.args in
+    let st = block_stands change_block_fits a.s.now a.at c.in-Stands.h (sym c.block_at-b.ensures ∙ c.in-Stands.is) in
+    c.number_at.ensures ∙ value_here a.s.now a.at a.j c.in-Stands.h st (omega arith)
+
+pub returns-else-j-wide : goal.returns-else-j-wide
+returns-else-j-wide c =
+    let a = c.args in
+    let st = block_stands change_block_fits a.s.now a.at c.in-Stands.h (sym c.block_at-b.ensures ∙ c.in-Stands.is) in
+    value_past a.s.now a.at a.j c.in-Stands.h st (omega arith)
