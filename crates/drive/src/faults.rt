@@ -14,7 +14,7 @@ pub const CODES: usize = 8;
 // How many codes the buffer holds.
 pub const BUFFER: usize = SITUATIONS * CODES;
 
-#[derive(Drop)]
+#[derive(Clone, Copy)]
 pub struct Faults {
     pub counter: u16, // PNU 944
     pub buffer: [u16; BUFFER], // PNU 947

@@ -16,7 +16,7 @@ pub use speed::{N2, Rpm, scale, size};
 pub use states::State;
 
 // What an axis keeps from one cycle to the next.
-#[derive(Drop)]
+#[derive(Clone, Copy)]
 pub struct Drive {
     pub state: State,
     pub word: u16, // PNU 10100, last accepted STW1
@@ -28,7 +28,7 @@ pub struct Drive {
 }
 
 // A drive record but for its faults.
-#[derive(Drop)]
+#[derive(Clone, Copy)]
 pub struct Motion {
     pub state: State,
     pub word: u16,
@@ -39,7 +39,7 @@ pub struct Motion {
 }
 
 // What a cycle is given: the telegram, then the axis's parameters.
-#[derive(Drop)]
+#[derive(Clone, Copy)]
 pub struct Input {
     pub standstill: bool,
     pub warning: bool,
@@ -53,7 +53,7 @@ pub struct Input {
 }
 
 // What a cycle answers, and of what it did that it acknowledged a situation, and that it came into S4.
-#[derive(Drop)]
+#[derive(Clone, Copy)]
 pub struct Output {
     pub state: State,
     pub status: u16,
@@ -62,13 +62,13 @@ pub struct Output {
     pub entered: bool,
 }
 
-#[derive(Drop)]
+#[derive(Clone, Copy)]
 pub struct CycleEnd {
     pub drive: Drive,
     pub output: Output,
 }
 
-#[derive(Drop)]
+#[derive(Clone, Copy)]
 pub struct MotionEnd {
     pub motion: Motion,
     pub output: Output,

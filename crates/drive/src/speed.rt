@@ -4,11 +4,11 @@ ghost use Rattle.std.specs.Int.Signed.{quot_z};
 ghost use Rattle.drive.specs.Speed.{full, speed_size, distance_of, scale_of};
 
 // A normalised figure: FULL is 100 %.
-#[derive(Drop)]
+#[derive(Clone, Copy)]
 pub struct N2(pub i16);
 
 // Revolutions per minute.
-#[derive(Drop)]
+#[derive(Clone, Copy)]
 pub struct Rpm(pub i32);
 
 const FULL: i32 = 16384;

@@ -4,7 +4,7 @@ ghost use Rattle.drive.specs.Cycle.{from_s1, from_s2, from_s3, from_s4, from_s51
 
 use super::word::Word;
 
-#[derive(Drop)]
+#[derive(Clone, Copy)]
 pub enum State {
     S1,
     S2,

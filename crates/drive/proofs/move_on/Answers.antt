@@ -1,8 +1,8 @@
 -- `drive::move_on` meets its contract: each call is replaced by what it answers. Assumes nothing.
+-- what the calls answered, one after the other, put together
 use Prim.Native.Nat.{ℕ}
 use mathlib.Core.Path.{Path, ◌≡◌, ap, ◌∙◌}
 use mathlib.Core.Bool.{Bool}
-use borrow.Author.Rules.{rules}
 use Rattle.drive.specs.declared.states.State.{State}
 use Rattle.drive.specs.declared.word.Word.{Word}
 use Rattle.drive.specs.declared.speed.N2.{N2}
@@ -13,40 +13,8 @@ use Rattle.drive.specs.declared.MotionEnd.{MotionEnd}
 use Rattle.drive.specs.Speed.{scale_of}
 use Rattle.drive.specs.Cycle.{word_of, word_used, setpoint_used, state_after, enters_s4, effective_of, near_of, fast_of, status_of}
 use Rattle.drive.specs.Motion.{moved_of}
-use Rattle.drive.proofs.move_on.Statement.{statement}
-use Rattle.drive.proofs.move_on.Tie as tie
+use Rattle.drive.proofs.move_on.Goals as goal
 
-word-used-requires : tie.Need-word-used-requires
-word-used-requires c κs = search rules
-
-setpoint-used-requires : tie.Need-setpoint-used-requires
-setpoint-used-requires c κs = search rules
-
-decode-requires : tie.Need-decode-requires
-decode-requires c κs = search rules
-
-state-after-requires : tie.Need-state-after-requires
-state-after-requires c κs = search rules
-
-enters-s4-requires : tie.Need-enters-s4-requires
-enters-s4-requires c κs = search rules
-
-effective-setpoint-requires : tie.Need-effective-setpoint-requires
-effective-setpoint-requires c κs = search rules
-
-is-near-requires : tie.Need-is-near-requires
-is-near-requires c κs = search rules
-
-is-fast-requires : tie.Need-is-fast-requires
-is-fast-requires c κs = search rules
-
-status-word-requires : tie.Need-status-word-requires
-status-word-requires c κs = search rules
-
-scale-requires : tie.Need-scale-requires
-scale-requires c κs = search rules
-
--- what the calls answered, one after the other, put together
 assembled :
     (m : Motion) (faulted acknowledged : Bool) (i : Input) {w : ℕ} {setpoint e : N2} {b : Word} {entered near fast : Bool} {s : State} {z : ℕ} {speed : Rpm}
     → w ≡ word_used i.stw1 m.word
@@ -80,35 +48,16 @@ assembled m faulted acknowledged i w setpoint b' s' entered' e' near' fast z' sp
       output = record { state = s j; status = z j; speed = speed j; acknowledged = acknowledged; entered = entered j };
     }
 
-returns : tie.Need-returns
+pub returns : goal.returns
 returns c =
-    let near = c.before.before.before in
-    let entered = near.before.before in
-    let b = entered.before.before in
     assembled _ _ _ _
-    b.before.before.word-used.ensures
-    b.before.setpoint-used.ensures
-    b.decode.ensures
-    entered.before.state-after.ensures
-    entered.enters-s4.ensures
-    near.before.effective-setpoint.ensures
-    near.is-near.ensures
-    c.before.before.is-fast.ensures
-    c.before.status-word.ensures
-    c.scale.ensures
-
-pub move-on-spec : {M : Type 1} → statement M
-move-on-spec =
-    tie.close
-    (tie.spec
-    word-used-requires
-    setpoint-used-requires
-    decode-requires
-    state-after-requires
-    enters-s4-requires
-    effective-setpoint-requires
-    is-near-requires
-    is-fast-requires
-    status-word-requires
-    scale-requires
-    returns)
+    c.word_used-w.ensures
+    c.setpoint_used-setpoint.ensures
+    c.decode-b.ensures
+    c.state_after-s.ensures
+    c.enters_s4-entered.ensures
+    c.effective_setpoint-e.ensures
+    c.is_near-near.ensures
+    c.is_fast-fast.ensures
+    c.status_word-z.ensures
+    c.scale-speed.ensures
