@@ -7,7 +7,7 @@ ghost use Rattle.catalogue.specs.Table.{element_size, rows, row_at, find_in, fin
 ghost use Rattle.catalogue.specs.Element.{size_code, type_code, value_of, inside, element_of, put_element, fresh_of};
 
 // The type of a parameter's elements.
-#[derive(Drop)]
+#[derive(Clone, Copy)]
 pub enum Kind {
     U8,
     U16,
@@ -16,7 +16,7 @@ pub enum Kind {
 }
 
 // A parameter: its limits, its fresh values (of the first element and of each other), its type, its elements, and where they stand.
-#[derive(Drop)]
+#[derive(Clone, Copy)]
 pub struct Row {
     pub low: i32,
     pub high: i32,
@@ -30,7 +30,7 @@ pub struct Row {
     pub offset: u16,
 }
 
-#[derive(Drop)]
+#[derive(Clone, Copy)]
 pub enum Found {
     At(Row),
     Nothing,
