@@ -1,0 +1,25 @@
+-- Beside a slice of another size nothing changes.
+use mathlib.Core.Path.{◌∙◌, ap}
+use Prim.Native.Nat.{ℕ}
+use Rattle.catalogue.specs.Table.{rows}
+use Rattle.versions.specs.Layout.{columns, last_at}
+use Rattle.versions.specs.Keep.{give_columns}
+use Rattle.versions.proofs.Slots.{restored_alone, restored_is}
+use borrow.Author.Rules.{rules}
+use Rattle.versions.proofs.keep.restore.Goals as goal
+
+pub returns-then-v-ne-SIZE : goal.returns-then-v-ne-SIZE
+unfolding last_at rows
+returns-then-v-ne-SIZE c = let a = c.args in restored_alone a.part.now a.v.now c.if-v-ne-SIZE.true a.n
+
+pub give_rows-requires : goal.give_rows-requires
+unfolding last_at rows
+give_rows-requires c = search rules
+
+pub returns : goal.returns
+unfolding last_at rows
+returns c =
+    let a = c.args in
+    c.give_rows.ensures
+    ∙ (ap (λ (k : ℕ). give_columns columns k a.v.now a.part.now) c.slot_of.ensures.0
+    ∙ restored_is a.part.now a.v.now c.if-v-ne-SIZE.false a.n)

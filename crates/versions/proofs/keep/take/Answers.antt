@@ -1,0 +1,28 @@
+-- The settings, and then the number.
+use mathlib.Core.Path.{◌∙◌, ap}
+use mathlib.Core.List.{List}
+use Prim.Native.Nat.{ℕ, ◌+◌}
+use native.Mathlib.Omega.{arith}
+use Rattle.codes.specs.Number.{put}
+use Rattle.catalogue.specs.Table.{rows}
+use Rattle.versions.specs.Low.{low_bytes}
+use Rattle.versions.specs.Layout.{last_at}
+use Rattle.versions.proofs.Slots.{taken_alone, taken_is}
+use Rattle.versions.proofs.keep.take.Goals as goal
+
+pub returns-then-v-ne-SIZE : goal.returns-then-v-ne-SIZE
+unfolding last_at rows
+returns-then-v-ne-SIZE c = let a = c.args in taken_alone a.part.now a.v.now c.if-v-ne-SIZE.true
+
+pub take_rows-requires : goal.take_rows-requires
+unfolding last_at rows
+take_rows-requires c = (omega arith, omega arith)
+
+pub returns : goal.returns
+unfolding last_at rows
+returns c =
+    let a = c.args in
+    let last = c.last_used-last in
+    c.put_number.ensures
+    ∙ (ap (λ (l : List ℕ). put l last_at (low_bytes 2 (last.result + 1))) c.take_rows.ensures
+    ∙ taken_is a.part.now a.v.now c.if-v-ne-SIZE.false last.result last.ensures)

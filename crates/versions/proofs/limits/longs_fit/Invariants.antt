@@ -1,0 +1,17 @@
+-- What the first i leave is 0 where they all lie inside.
+use mathlib.Core.Path.{◌≡◌}
+use mathlib.Core.Bool.{◌&&◌}
+use Prim.Native.Nat.{◌+◌, ◌*◌, ◌-◌, ◌≤◌}
+use lib.Dec.{eqb}
+use lib.Signed.{le_z}
+use Rattle.codes.specs.Number.{signed_of}
+use Rattle.catalogue.specs.Element.{every_element}
+use Rattle.versions.specs.Low.{low_number}
+use Rattle.versions.proofs.limits.longs_fit.Given as goal
+
+abbrev pub invariant-loop-i : goal.invariant-loop-i
+invariant-loop-i l =
+    (l.i ≤ l.n) × (eqb l.out 0 ≡ every_element (λ k. le_z (l.low) (signed_of 4 (low_number 4 l.s (l.at + k * 4))) && le_z (signed_of 4 (low_number 4 l.s (l.at + k * 4))) (l.high)) l.i)
+
+abbrev pub decreases-loop-i : goal.decreases-loop-i
+decreases-loop-i l = l.n - l.i

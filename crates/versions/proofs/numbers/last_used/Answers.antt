@@ -1,0 +1,15 @@
+-- The number stands after the columns.
+use mathlib.Core.Path.{◌∙◌}
+use lib.ListN.{length}
+use borrow.Author.Tests.{eq-eqb, ne_eqb}
+use Rattle.catalogue.specs.Table.{rows}
+use Rattle.versions.specs.Layout.{last_at, version_bytes, last_used}
+use Rattle.versions.proofs.numbers.last_used.Goals as goal
+
+pub returns-then-v-ne-SIZE : goal.returns-then-v-ne-SIZE
+unfolding last_used last_at rows
+returns-then-v-ne-SIZE c = let v = c.args.v.now in rw (ne_eqb (length v) version_bytes c.if-v-ne-SIZE.true)
+
+pub returns : goal.returns
+unfolding last_used last_at rows
+returns c = let v = c.args.v.now in c.word_at.ensures ∙ rw (eq-eqb (length v) version_bytes c.if-v-ne-SIZE.false)
