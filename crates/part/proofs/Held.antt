@@ -8,7 +8,7 @@ use lib.Dec.{eqb, leb, lit≤}
 use lib.ListN.{length, take, drop, replicate}
 use lib.Seq.{take-append_seam, drop-append_seam, drop_at, length-take-le}
 use borrow.Author.Tests.{eq-eqb, le-leb, leb-true}
-use Rattle.codes.specs.Code.{readable, reads_all, word}
+use Rattle.codes.specs.Code.{readable, reads_all}
 use Rattle.codes.specs.Number.{number_at, put, signed_of}
 use Rattle.codes.proofs.Put.{put_length, put_fits, put_append, put_over, put_drop}
 use Rattle.codes.proofs.Number.{number_put, number_before, numbers_same}

@@ -1,0 +1,14 @@
+-- The situations before k fit.
+use Rattle.part.proofs.Situations.{from_situation}
+use Rattle.part.specs.Record.{words_at}
+use Rattle.drive.specs.Faults.{situations, buffer_codes}
+use Rattle.catalogue.specs.Table.{offset_of}
+use Prim.Native.Nat.{◌-◌, ◌≤◌}
+use mathlib.Core.Path.{◌≡◌}
+use Rattle.part.proofs.form.situations_fit.Given as goal
+
+abbrev pub invariant-loop-k : goal.invariant-loop-k
+invariant-loop-k l = (l.k ≤ situations) × (from_situation (words_at buffer_codes l.part (offset_of 947)) 0 ≡ from_situation (words_at buffer_codes l.part (offset_of 947)) l.k)
+
+abbrev pub decreases-loop-k : goal.decreases-loop-k
+decreases-loop-k l = situations - l.k

@@ -1,0 +1,17 @@
+-- Each field stands at its place.
+use Rattle.part.specs.Record.{drive_of}
+use Rattle.catalogue.specs.Table.{rows, parameter_bytes, find_of, offset_of}
+use Rattle.part.proofs.record.load_motion.Goals as goal
+
+pub returns : goal.returns
+unfolding drive_of offset_of find_of rows parameter_bytes
+returns c =
+    rw (
+      c.word_at-2.ensures,
+      c.word_at.ensures,
+      c.speed_at-actual.ensures,
+      c.speed_at-effective.ensures,
+      c.speed_at-setpoint.ensures,
+      c.state_of-s.ensures,
+      c.byte_at.ensures,
+    )
