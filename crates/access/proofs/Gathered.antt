@@ -1,5 +1,5 @@
 -- The elements of a row for a block: gathered one by one in an array, or copied as the bytes that they stand in.
-use mathlib.Core.Path.{◌≡◌, refl, sym, ◌∙◌, ap}
+use mathlib.Core.Path.{◌≡◌, refl, sym, ◌∙◌, ap, ap₂}
 use mathlib.Core.List.{List, [], ◌∷◌, ◌++◌}
 use Prim.Native.Nat.{ℕ, zero, suc, ◌+◌, ◌*◌, ◌%◌, ◌≤◌, ◌<◌}
 use native.Mathlib.Omega.{arith}
@@ -61,7 +61,7 @@ module _ (r : Row) (p : List ℕ) where
     b = record { format = size_code r.kind; values = elements_from r i n p }
 
     pub gathered_put : (l m : List ℕ) (at : ℕ) (vs : List ℕ) → n ≤ buffer_codes → vs ≡ elements_from r i n p → m ≡ put_block l at (record { format = f; values = vs }) → m ≡ put l at (block_bytes b)
-    gathered_put l m at vs few same e = e ∙ (rw (code, same) refl ∙ block_counted l at b (omega (arith, elements_length i n)))
+    gathered_put l m at vs few same e = e ∙ (ap₂ (λ (x : ℕ) (xs : List ℕ). put_block l at (record { format = x; values = xs })) code same ∙ block_counted l at b (omega (arith, elements_length i n)))
 
     pub copied_block : (w : ℕ) → w ≡ element_size r.kind → Bytes p → r.offset + i * w + n * w ≤ length p → f ∷ n ∷ take (n * w) (drop (r.offset + i * w) p) ++ replicate (n * w % 2) 0 ≡ block_bytes b
     copied_block w wide y there =

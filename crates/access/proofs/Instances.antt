@@ -268,6 +268,7 @@ others_kept p q m j few d = go ((only_stored_changes set_one p one_fits).element
     none : {c : Changed} → StoredBy marks (change_one marks too_high p) q j ⊎ (StoredBy user c q j ⊎ ⊥) → ⊥
     none (inl x) = true≢false x.answered
     none (inr (inl x)) = not_user q j d x.names
+    none {c = c} (inr (inr x)) = elim x [ ]
 
     go : Allowed (λ q j. (q.writable ≡ true) × Stored set_one.addresses set_one.blocks p q j) p (worked set_one p).part q j → element_of q j (worked set_one p).part ≡ element_of q j p
     go (inl e) = e
@@ -298,6 +299,7 @@ module _ (p : List ℕ) (size : length p ≡ part_size) (q : Row) where
     where
       later : {c : Changed} → StoredBy marks c q 0 ⊎ ⊥ → ⊥
       later (inl x) = omega (arith, ap pnu_of (x.names.found ∙ sym e))
+      later {c = c} (inr x) = elim x [ ]
 
   marks_there : find_of 30001 ≡ At q → (j : ℕ) → 1 ≤ j → j < 3 → element_of q j (worked set_two p).part ≡ get_or (0 ∷ 3000 ∷ []) (j - 1) 0
   unfolding set_two marks levels user number too_high change_one checked find_of rows inside pnu_of
@@ -319,3 +321,4 @@ module _ (p : List ℕ) (size : length p ≡ part_size) (q : Row) where
       later : {c : Changed} {m : List ℕ} → StoredBy user c q j ⊎ (StoredBy marks (change_one marks too_high m) q j ⊎ ⊥) → ⊥
       later (inl x) = omega (arith, ap pnu_of (x.names.found ∙ sym e))
       later (inr (inl x)) = true≢false x.answered
+      later {c = c} {m = m} (inr (inr x)) = elim x [ ]

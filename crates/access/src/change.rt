@@ -20,7 +20,7 @@ use blocks::{Head, Header};
 use catalogue::{Kind, Row};
 
 // Where the values of a block stand: the place of the first, the bytes of each, and how many there are.
-#[derive(Drop)]
+#[derive(Clone, Copy)]
 pub struct Values {
     pub at: usize,
     pub size: usize,
@@ -28,7 +28,7 @@ pub struct Values {
 }
 
 // What an address came to: whether it failed, with which error, and how many elements were stored.
-#[derive(Drop)]
+#[derive(Clone, Copy)]
 pub struct Done {
     pub failed: bool,
     pub error: u16,
@@ -36,7 +36,7 @@ pub struct Done {
 }
 
 // What all addresses came to: where their blocks end, whether one is an error, and how many elements were stored.
-#[derive(Drop)]
+#[derive(Clone, Copy)]
 pub struct Changes {
     pub next: usize,
     pub error: bool,

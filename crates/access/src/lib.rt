@@ -13,14 +13,14 @@ mod read;
 mod reply;
 
 // The elements that an address names, or its error.
-#[derive(Drop)]
+#[derive(Clone, Copy)]
 pub enum Checked {
     Elements(Row, u16),
     Error(u16),
 }
 
 // What a block came to: its refusal number, or 0, and how many elements were stored.
-#[derive(Drop)]
+#[derive(Clone, Copy)]
 pub struct Report {
     pub number: u8,
     pub stored: u16,

@@ -9,7 +9,7 @@ ghost use Rattle.access.specs.Walk.{Wrote};
 use blocks::Header;
 
 // Where the next block goes, and whether an error was written.
-#[derive(Drop)]
+#[derive(Clone, Copy)]
 pub struct Written {
     pub next: usize,
     pub error: bool,

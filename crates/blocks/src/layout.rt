@@ -50,7 +50,7 @@ pub fn value_size(f: u8) -> usize
 }
 
 // Bytes of a block's values: of each, of all of them, and how many fill these up to an even number.
-#[derive(Drop)]
+#[derive(Clone, Copy)]
 pub struct Sizes {
     pub each: usize,
     pub bare: usize,

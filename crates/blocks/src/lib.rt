@@ -22,7 +22,7 @@ pub const BLOCK_LIMIT: usize = 240;
 const MOST_PARAMETERS: u8 = 39;
 
 // The four bytes that a block begins with; `count` is its number of parameters.
-#[derive(Drop)]
+#[derive(Clone, Copy)]
 pub struct Header {
     pub reference: u8,
     pub identifier: u8,
@@ -31,7 +31,7 @@ pub struct Header {
 }
 
 // How a block of values begins, the bytes of each value, and where the next block begins.
-#[derive(Drop)]
+#[derive(Clone, Copy)]
 pub struct Head {
     pub format: u8,
     pub count: u8,
@@ -39,14 +39,14 @@ pub struct Head {
     pub next: usize,
 }
 
-#[derive(Drop)]
+#[derive(Clone, Copy)]
 pub enum BlockAt {
     Stands(Head),
     Nothing,
 }
 
 // Where a walk over blocks stands, and whether it met an error block; or that the blocks are not readable.
-#[derive(Drop)]
+#[derive(Clone, Copy)]
 enum Walk {
     At(usize, bool),
     Bad,

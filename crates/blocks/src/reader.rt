@@ -7,7 +7,7 @@ ghost use Rattle.blocks.specs.Place.{step_at};
 // Where the first address stands.
 pub const FIRST: usize = 4;
 
-#[derive(Drop)]
+#[derive(Clone, Copy)]
 pub struct Address {
     pub attribute: u8,
     pub elements: u8,
@@ -16,7 +16,7 @@ pub struct Address {
 }
 
 // The address at a place, with the place after it.
-#[derive(Drop)]
+#[derive(Clone, Copy)]
 pub enum Step {
     Next(Address, usize),
     End,

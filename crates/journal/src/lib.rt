@@ -22,14 +22,14 @@ pub use record::{longest_record, next_length, record_length};
 pub const LINE: usize = 513;
 
 // How long the line is, and whether the bytes were a record.
-#[derive(Drop)]
+#[derive(Clone, Copy)]
 pub struct Played {
     pub length: usize,
     pub good: bool,
 }
 
 // What a record did: a cycle of an axis, a frame of a farm, by itself or merged, or its going back; nothing, where it is bad.
-#[derive(Drop)]
+#[derive(Clone, Copy)]
 pub enum Acted {
     Cycle(u8, CycleDone),
     Frame(u8, Framed),

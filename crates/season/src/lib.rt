@@ -13,7 +13,7 @@ mod totals; // totals.rt: what a record counts, added to the totals
 pub use report::put_report;
 
 // How a record, and so a report, came out.
-#[derive(Drop)]
+#[derive(Clone, Copy)]
 pub enum Turn {
     Counted,
     // no record

@@ -14,7 +14,7 @@ mod reply; // reply.rt: what is written in the reply memory
 
 // What a host is told of a cycle. This and the next three are laid out as in C, since exported calls hand them on.
 #[repr(C)]
-#[derive(Drop)]
+#[derive(Clone, Copy)]
 pub struct Cycled {
     pub rpm: i32,
     pub status: u16,
@@ -24,7 +24,7 @@ pub struct Cycled {
 
 // What a frame or a merged call answers beside its reply: the reply's length, and how many elements were stored.
 #[repr(C)]
-#[derive(Drop)]
+#[derive(Clone, Copy)]
 pub struct Framed {
     pub length: u16,
     pub stored: u16,
@@ -33,7 +33,7 @@ pub struct Framed {
 
 // The versions of a farm that are kept: the numbers oldest to oldest + kept - 1.
 #[repr(C)]
-#[derive(Drop)]
+#[derive(Clone, Copy)]
 pub struct Listed {
     pub oldest: u16,
     pub kept: u16,
@@ -42,7 +42,7 @@ pub struct Listed {
 
 // What a going back answers: how many elements were stored, and the number of the new version.
 #[repr(C)]
-#[derive(Drop)]
+#[derive(Clone, Copy)]
 pub struct Returned {
     pub stored: u16,
     pub version: u16,
@@ -50,7 +50,7 @@ pub struct Returned {
 }
 
 // A cycle's answer: what a host is told, and of what the cycle did that it acknowledged a situation, and that it came into S4.
-#[derive(Drop)]
+#[derive(Clone, Copy)]
 pub struct CycleDone {
     pub told: Cycled,
     pub acknowledged: bool,

@@ -6,7 +6,7 @@ ghost use Rattle.versions.specs.Version.{is_kept};
 const MOST: u16 = super::SLOTS as u16;
 
 // The kept numbers are `oldest` .. `oldest + count - 1`.
-#[derive(Drop)]
+#[derive(Clone, Copy)]
 pub struct Kept {
     pub oldest: u16,
     pub count: u16,

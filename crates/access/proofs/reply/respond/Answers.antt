@@ -1,0 +1,16 @@
+-- The header over the first four bytes, then the first n bytes wait.
+use mathlib.Core.Path.{◌∙◌, ap}
+use mathlib.Core.List.{List}
+use Prim.Native.Nat.{ℕ}
+use native.Mathlib.Omega.{arith}
+use lib.ListN.{take}
+use Rattle.part.specs.Layout.{with_response}
+use Rattle.access.proofs.Responding.{header_over}
+use Rattle.access.proofs.reply.respond.Goals as goal
+
+pub returns : goal.returns
+returns c =
+    let a = c.args in
+    c.put_response.ensures
+    ∙ (ap (λ (l : List ℕ). with_response (take a.n l) a.part.now) c.put_header.ensures
+    ∙ ap (λ (l : List ℕ). with_response l a.part.now) (header_over a.body (record { reference = a.h.reference; identifier = a.id; axis = a.h.axis; count = a.h.count }) a.n (omega arith) (omega arith)))
