@@ -1,4 +1,4 @@
--- How the search of a list goes on, in the terms of `firstIn`. Assumes nothing.
+-- How the search of a list goes on, in the terms of `first_in`. Assumes nothing.
 use Prim.Native.Nat.{ℕ, suc, ◌+◌, ◌≤◌, ◌<◌}
 use native.Mathlib.Numerals.{add-one}
 use native.Mathlib.Omega.{arith}

@@ -64,7 +64,7 @@ acknowledges_in d i = acknowledges (word_of (word_used i.stw1 d.word)) (word_of 
 abbrev pub faults_after : Drive → Input → Faults
 faults_after d i = after_code i.fault (after_ack (acknowledges_in d i) d.faults)
 
--- every cycle is steps 2 and 3, and what `movedOf` makes of the record but for its faults
+-- every cycle is steps 2 and 3, and what `moved_of` makes of the record but for its faults
 abbrev pub CycleMoves : Type 0
 CycleMoves =
     (d : Drive) (i : Input)

@@ -47,7 +47,7 @@ word_write at x = record { at = at; size = 2; bytes = (word 2).write x; sized = 
 abbrev speed_write : ℕ → N2 → Write
 speed_write at v = word_write at (bits_of 2 v.0)
 
--- the places of a drive record, as `putMotion` and then `putDrive` go through them
+-- the places of a drive record, as `put_motion` and then `put_drive` go through them
 abbrev pub motion_writes : Motion → List Write
 motion_writes m =
     speed_write (offset_of 10103) m.actual

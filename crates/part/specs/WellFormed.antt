@@ -1,6 +1,6 @@
 -- Document 01, "A part is well-formed exactly when": one definition for each part of the rule, in its order. The part on fault
--- situations, "no code stands after a 0 or twice", is `properFaults` in drive's `Faults`; that on the versions, document 02, R-7, "number 2
--- also tests that they lie inside the limits", is `versionsFit` in the `Fit` of versions. "Its other fields may hold anything of their
+-- situations, "no code stands after a 0 or twice", is `proper_faults` in drive's `Faults`; that on the versions, document 02, R-7, "number 2
+-- also tests that they lie inside the limits", is `versions_fit` in the `Fit` of versions. "Its other fields may hold anything of their
 -- type": nothing else is asked.
 use Rattle.std.specs.Prelude.{Bool, true, cond, ◌&&◌, ◌||◌, List, map, ℕ, eqb, leb, length, drop}
 use Rattle.codes.specs.Code.{readable}

@@ -52,11 +52,11 @@ table_number c s =
     (cond (not (eqb (length s) station_size) || not (well_formed k (part_of k s))) 2
     ((kind_of c).tests (part_of k s)))
 
--- every call is numbered by the table, wherever its number is decided: 1 and the size of 2 before any part is looked at (`stationRefusal`),
+-- every call is numbered by the table, wherever its number is decided: 1 and the size of 2 before any part is looked at (`station_refusal`),
 abbrev pub NumberedByTable : Type 0
 NumberedByTable = (c : Call) (s : List ℕ) → number_in (answer kinds c s) ≡ table_number c s
 
--- and 10, 11 and 15 where the block is worked (`outcomeOf`)
+-- and 10, 11 and 15 where the block is worked (`outcome_of`)
 abbrev pub BlockNumbered : Type 0
 BlockNumbered =
     (k : ℕ) (s p : List ℕ)

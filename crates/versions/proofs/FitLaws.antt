@@ -65,7 +65,7 @@ module _ (v : List ℕ) where
 abbrev pub Inside : List ℕ → Type 0
 Inside p = (q : Columns) → Memᴰ q columns → (j : ℕ) → j < q.row.count → inside q.row (element_of q.row j p) ≡ true
 
--- the test of a part's rows says so: a row that is a setting has its elements inside (part's `limitsFit`)
+-- the test of a part's rows says so: a row that is a setting has its elements inside (part's `limits_fit`)
 abbrev row_fits : List ℕ → Row → Bool
 row_fits p r = cond (is_setting r) (every_element (λ i. inside r (element_of r i p)) r.count) true
 
