@@ -1,5 +1,5 @@
 # Sourced by ../llinkhiro: the programs that its commands start, each built when it is first asked for and when its source has changed
-# since. What is built runs without a toolchain.
+# since. What is built lies in target/ and runs without a toolchain.
 
 # Where nobody hears it, nothing else is lost.
 say() {
@@ -31,63 +31,86 @@ stale() {
   [ ! -f "$1" ] || [ -n "$(find "${@:2}" -newer "$1" -print -quit)" ]
 }
 
-# The code of the crates alone: a definition or a proof makes no other program.
-stale_code() {
-  [ ! -f "$1" ] || [ -n "$(find crates -name '*.rt' -newer "$1" -print -quit)" ]
-}
-
-# How many crates are proved for one: itself and what it stands on, each once.
-proved_for() {
+# The crates that a crate is built of, each behind those that it stands on, as rt builds them; itself the last.
+crates_of() {
   awk -v name="$1" -F: '
     function visit(crate, i, n, on) {
       if (!(crate in below) || seen[crate]++) return
-      count++
       n = split(below[crate], on, " ")
       for (i = 1; i <= n; i++) visit(on[i])
+      print crate
     }
-    /^[a-z]/ { below[$1] = $2 }
-    END { visit(name); print count }' crates.txt
+    /^[a-z]/ { split($1, words, " "); below[words[1]] = $2 }
+    END { visit(name) }' crates.txt
 }
 
-# Tells of each crate as rt does that it is proved.
+# code_of CRATE : a sum of the code that it is built of, by which it is told whether that changed. A definition or a proof makes no other
+# program.
+code_of() {
+  local crate folders=()
+  while read -r crate; do folders+=("crates/$crate/src"); done < <(crates_of "$1")
+  [ ${#folders[@]} -gt 0 ] || fail "crates.txt lists no crate $1"
+  find "${folders[@]}" -name '*.rt' -print0 | LC_ALL=C sort -z | xargs -0 sha256sum | sha256sum
+}
+
+# is_of FILE SUM : it is there, and was built of the code with this sum.
+is_of() {
+  [ -f "$1" ] && [ "$(cat "$1.sum" 2>/dev/null)" = "$2" ]
+}
+
+# keep BUILT FILE SUM : what rt built is kept, whole or not at all, with the sum of its code. `rt ci` clears away what lies in a crate's out/.
+keep() {
+  mkdir -p "${2%/*}" && rm -f "$2.sum" && cp "$1" "$2.$$" && mv -f "$2.$$" "$2" && echo "$3" >"$2.sum" || fail "$2 cannot be written"
+}
+
+# tell_proved CRATE : tells of each crate that this one is built of, as rt says it, that it is proved. Rt passes over what it kept.
 tell_proved() {
-  local of=$1 count=0 who crate word
-  while read -r who crate word _; do
-    if [ "$who $word" = 'rt: proved' ]; then
-      count=$((count + 1))
-      say "$count of $of proved: $crate"
-    fi
+  local who name count=0 crate=
+  local -A place=()
+  while read -r name; do place[$name]=$((++count)); done < <(crates_of "$1")
+  while read -r who name _; do
+    case $who in
+      crate) crate=${name%:} ;;
+      logic=proved) say "${place[$crate]:-} of $count proved: $crate" ;;
+    esac
   done
+}
+
+# proved CRATE WORD : rt proves a crate and builds it by its word for that. What `rt run` starts has nothing to read.
+proved() {
+  local log=target/$1.log
+  mkdir -p target
+  (cd "crates/$1" && rt "$2" 2>&1 </dev/null) | tee "$log" | tell_proved "$1" || { cat "$log" >&2; fail "$1 was not built"; }
 }
 
 # A program, which is proved when it is built.
 current_program() {
-  local program=target/bin/$1 log=target/$1.log
-  stale_code "$program" || return 0
+  local program=target/bin/$1 sum
+  sum=$(code_of "$1") || exit
+  ! is_of "$program" "$sum" || return 0
   need_rt "$1"
   say "proving and building $1; this takes some minutes the first time"
-  mkdir -p target
-  rt check "$1" 2>&1 </dev/null | tee "$log" | tell_proved "$(proved_for "$1")" ||
-    { cat "$log" >&2; fail "$1 was not built"; }
-  [ -x "$program" ] || fail "$1 was proved before, and is missing: remove target/ and try again"
-  touch "$program"
+  proved "$1" run
+  keep "crates/$1/out/$1" "$program" "$sum"
 }
 
 archive=target/staticlib/libllinkhiro.a
 
 # The library for a host written in C.
 library() {
+  local sum
+  sum=$(code_of llinkhiro) || exit
   need_rt "the library"
-  mkdir -p target
-  rt staticlib llinkhiro >target/staticlib.log 2>&1 </dev/null || { cat target/staticlib.log >&2; fail "the library was not built"; }
+  say "proving and building the library; this takes some minutes the first time"
+  proved llinkhiro lib
+  keep crates/llinkhiro/out/libllinkhiro.a "$archive" "$sum"
 }
 
 # The library as it was built last, where no code has changed since.
 current_library() {
-  stale_code "$archive" || return 0
-  say "proving and building the library; this takes some minutes the first time"
-  library
-  touch "$archive"
+  local sum
+  sum=$(code_of llinkhiro) || exit
+  is_of "$archive" "$sum" || library
 }
 
 # current_host PROGRAM ARCHIVE FOLDER : a program in C that makes the calls of an archive, built in a folder.
