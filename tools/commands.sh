@@ -77,7 +77,6 @@ of_journals() {
     finish || status=$?
   } 4>&2
   said=$(<"$notes/said")
-  [ "$status" != 141 ] || said='standard output: Broken pipe'
   [ -z "$said" ] || echo "$said" >&2 || true
   case "$status $said" in
     '0 ') ;;
