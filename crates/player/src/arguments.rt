@@ -5,15 +5,24 @@ use super::Job;
 use super::file::play_file;
 use super::out::OUT;
 use super::record::{Progress, Went};
-use libc::STDIN_FILENO;
+use super::said::fail;
 use season::COUNTS;
+use std::env::FillError;
+use std::rt::Runtime;
+use std::{fs, io};
 
-fn is_dash(path: &[u8]) -> bool {
-    if path.len() == 1 {
-        path[0] == b'-'
-    } else {
-        false
-    }
+// Bytes of a name, at most: more than a path may have.
+const NAME: usize = 4096;
+
+// The system's numbers for an argument that is not there, a name that is too long, and bytes that are no text.
+const EINVAL: i32 = 22;
+
+const ENAMETOOLONG: i32 = 36;
+
+const EILSEQ: i32 = 84;
+
+fn is_dash(path: &str) -> bool {
+    path == "-"
 }
 
 fn is_end(went: Went) -> bool {
@@ -24,7 +33,8 @@ fn is_end(went: Went) -> bool {
 }
 
 // Plays standard input, after so much output.
-fn play_input(
+fn play_input<R: Runtime>(
+    rt: &R,
     job: Job,
     station: &mut [u8],
     input: &mut [u8],
@@ -35,10 +45,12 @@ fn play_input(
     requires { used ≤ 16384 }
     ensures { result.used ≤ 16384 }
 {
+    let mut source = rt.reader();
     play_file(
+        rt,
         job,
-        STDIN_FILENO,
-        b"standard input",
+        &mut source,
+        "standard input",
         station,
         input,
         totals,
@@ -48,9 +60,10 @@ fn play_input(
 }
 
 // Plays the file of a name; one that cannot be opened is named, and ends the run.
-fn play_named(
+fn play_named<R: Runtime>(
+    rt: &R,
     job: Job,
-    name: &[u8],
+    name: &str,
     station: &mut [u8],
     input: &mut [u8],
     totals: &mut [u64; COUNTS],
@@ -61,23 +74,40 @@ fn play_named(
     ensures { result.used ≤ 16384 }
 {
     if is_dash(name) {
-        return play_input(job, station, input, totals, out, used);
+        return play_input(rt, job, station, input, totals, out, used);
     }
-    let fd = os::open_read(name);
-    if fd < 0 {
-        os::fail(name);
-        return Progress {
-            used,
-            went: Went::Stopped,
-        };
+    match fs::open(rt, name) {
+        Ok(mut file) => play_file(rt, job, &mut file, name, station, input, totals, out, used),
+        Err(error) => {
+            fail(rt, name, error);
+            Progress {
+                used,
+                went: Went::Stopped,
+            }
+        }
     }
-    let r = play_file(job, fd, name, station, input, totals, out, used);
-    libc::close(fd);
-    r
+}
+
+// Why an argument could not be copied, in the system's words.
+fn why_not_copied(error: FillError) -> io::Error {
+    match error {
+        FillError::TooLong => io::Error::from_raw_os_error(ENAMETOOLONG),
+        FillError::NotPresent => io::Error::from_raw_os_error(EINVAL),
+    }
+}
+
+// A name that is no text is named with U+FFFD in place of what is none.
+fn fail_of_name<R: Runtime>(rt: &R, name: &[u8]) {
+    let error = io::Error::from_raw_os_error(EILSEQ);
+    match String::from_utf8_lossy(rt.alloc(), name) {
+        Ok(text) => fail(rt, text.as_str(), error),
+        Err(_) => fail(rt, "argument", error),
+    }
 }
 
 // Plays the file that an argument names.
-fn play_argument(
+fn play_argument<R: Runtime>(
+    rt: &R,
     job: Job,
     i: usize,
     station: &mut [u8],
@@ -89,20 +119,34 @@ fn play_argument(
     requires { used ≤ 16384 }
     ensures { result.used ≤ 16384 }
 {
-    let mut name = io::buffer();
-    let n = os::arg(i, &mut name);
-    if os::errno() != 0 {
-        os::fail(b"argument");
-        return Progress {
-            used,
-            went: Went::Stopped,
-        };
+    let mut name = [0u8; NAME];
+    let stopped = Progress {
+        used,
+        went: Went::Stopped,
+    };
+    match rt.arg(i, &mut name) {
+        Ok(n) => match str::from_utf8(&name[..n]) {
+            Ok(text) => play_named(rt, job, text, station, input, totals, out, used),
+            Err(_) => {
+                fail_of_name(rt, &name[..n]);
+                stopped
+            }
+        },
+        Err(error) => {
+            fail(rt, "argument", why_not_copied(error));
+            stopped
+        }
     }
-    play_named(job, &name[..n], station, input, totals, out, used)
+}
+
+// Whether the program was given so many arguments, its own name not counted.
+fn has_argument<R: Runtime>(rt: &R, i: usize) -> bool {
+    !matches!(rt.arg(i, &mut []), Err(FillError::NotPresent))
 }
 
 // Plays the files that the arguments name, each after the end of the one before; with no argument, standard input.
-pub(crate) fn play_arguments(
+pub(crate) fn play_arguments<R: Runtime>(
+    rt: &R,
     job: Job,
     station: &mut [u8],
     input: &mut [u8],
@@ -111,15 +155,14 @@ pub(crate) fn play_arguments(
 ) -> Progress
     ensures { result.used ≤ 16384 }
 {
-    let count = os::arg_count();
-    if count < 2 {
-        return play_input(job, station, input, totals, out, 0);
+    if !has_argument(rt, 1) {
+        return play_input(rt, job, station, input, totals, out, 0);
     }
     let mut used: usize = 0;
     let mut went = Went::End;
     let mut i: usize = 1;
-    while i < count && is_end(went) {
-        let r = play_argument(job, i, station, input, totals, out, used);
+    while i < usize::MAX && is_end(went) && has_argument(rt, i) {
+        let r = play_argument(rt, job, i, station, input, totals, out, used);
         used = r.used;
         went = r.went;
         i += 1;

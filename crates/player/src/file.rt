@@ -6,11 +6,12 @@ use super::out::{OUT, Room, make_room};
 use super::record::{Progress, Went, finish, work};
 use super::window::{Window, fill, from, is_short, record_end, unread};
 use journal::LINE;
-use libc::STDERR_FILENO;
 use season::COUNTS;
+use std::io::Read;
+use std::rt::Runtime;
 
 // How much output is collected, how it goes on, and the input that is left.
-#[derive(Drop)]
+#[derive(Clone, Copy)]
 struct Step {
     used: usize,
     went: Went,
@@ -18,7 +19,7 @@ struct Step {
 }
 
 // How much output is collected, how it goes on, and at which record, counted from 1, it went on no more.
-#[derive(Drop)]
+#[derive(Clone, Copy)]
 struct Reached {
     used: usize,
     went: Went,
@@ -38,12 +39,18 @@ fn ended(failed: bool) -> Went {
 }
 
 // Writes the output where more of the file has to be waited for, so that a line is there as soon as its record is.
-fn write_before_wait(input: &[u8], w: Window, out: &[u8; OUT], used: usize) -> Room
+fn write_before_wait<R: Runtime>(
+    rt: &R,
+    input: &[u8],
+    w: Window,
+    out: &[u8; OUT],
+    used: usize,
+) -> Room
     requires { (used ≤ 16384) × ((w.start ≤ w.end) × (w.end ≤ length input.now)) }
     ensures { result.at ≤ 16384 }
 {
     if is_short(input, w) {
-        make_room(out, used, OUT)
+        make_room(rt, out, used, OUT)
     } else {
         Room {
             at: used,
@@ -53,9 +60,11 @@ fn write_before_wait(input: &[u8], w: Window, out: &[u8; OUT], used: usize) -> R
 }
 
 // Works one record, if there is one.
-fn play_next(
+fn play_next<R: Runtime, S: Read>(
+    rt: &R,
     job: Job,
-    name: &[u8],
+    source: &mut S,
+    name: &str,
     station: &mut [u8],
     input: &mut [u8],
     totals: &mut [u64; COUNTS],
@@ -67,7 +76,7 @@ fn play_next(
     requires { (used ≤ 16384) × ((w.start ≤ w.end) × (w.end ≤ length input.old)) }
     ensures { (result.used ≤ 16384) × ((result.window.start ≤ result.window.end) × (result.window.end ≤ length input.old)) }
 {
-    let room = write_before_wait(input, w, out, used);
+    let room = write_before_wait(rt, input, w, out, used);
     if !room.good {
         return Step {
             used: 0,
@@ -75,7 +84,7 @@ fn play_next(
             window: w,
         };
     }
-    let v = fill(name, input, w);
+    let v = fill(rt, source, name, input, w);
     let start = v.start;
     let end = v.end;
     if start == end {
@@ -87,6 +96,7 @@ fn play_next(
     }
     let next = record_end(input, start, end);
     let p = work(
+        rt,
         job,
         station,
         &input[start..next],
@@ -105,10 +115,11 @@ fn play_next(
 
 // Works the records of a file until it does not go on. A proved loop has to end: this one counts up to a number of records that
 // no file has.
-fn play_records(
+fn play_records<R: Runtime, S: Read>(
+    rt: &R,
     job: Job,
-    fd: i32,
-    name: &[u8],
+    source: &mut S,
+    name: &str,
     station: &mut [u8],
     input: &mut [u8],
     totals: &mut [u64; COUNTS],
@@ -120,12 +131,12 @@ fn play_records(
 {
     let mut line = [0u8; LINE];
     let mut used = collected;
-    let mut window = unread(fd);
+    let mut window = unread();
     let mut went = Went::On;
     let mut records: u64 = 0;
     while records < u64::MAX && is_on(went) {
         let s = play_next(
-            job, name, station, input, totals, &mut line, out, window, used,
+            rt, job, source, name, station, input, totals, &mut line, out, window, used,
         );
         used = s.used;
         went = s.went;
@@ -140,18 +151,12 @@ fn play_records(
 }
 
 // Names the record that ended the run.
-fn say(name: &[u8], record: u64, went: Went) {
-    io::write_all(STDERR_FILENO, name);
-    io::write_all(STDERR_FILENO, b": record ");
-    io::print_decimal(STDERR_FILENO, record);
-    match went {
-        Went::Over => {
-            io::write_all(STDERR_FILENO, b" would bring a count to 2^64\n");
-        }
-        _ => {
-            io::write_all(STDERR_FILENO, b" is bad\n");
-        }
-    }
+fn say<R: Runtime>(rt: &R, name: &str, record: u64, went: Went) {
+    let said = match went {
+        Went::Over => { eprintln!(rt; "{name}: record {record} would bring a count to 2^64") }
+        _ => { eprintln!(rt; "{name}: record {record} is bad") }
+    };
+    let _ = said;
 }
 
 fn is_last(went: Went) -> bool {
@@ -162,10 +167,11 @@ fn is_last(went: Went) -> bool {
 }
 
 // Plays a file to its end, or to the record that ends the run: then the job is finished there, and after that the record is named.
-pub(crate) fn play_file(
+pub(crate) fn play_file<R: Runtime, S: Read>(
+    rt: &R,
     job: Job,
-    fd: i32,
-    name: &[u8],
+    source: &mut S,
+    name: &str,
     station: &mut [u8],
     input: &mut [u8],
     totals: &mut [u64; COUNTS],
@@ -175,11 +181,13 @@ pub(crate) fn play_file(
     requires { collected ≤ 16384 }
     ensures { result.used ≤ 16384 }
 {
-    let p = play_records(job, fd, name, station, input, totals, out, collected);
+    let p = play_records(
+        rt, job, source, name, station, input, totals, out, collected,
+    );
     let went = p.went;
     if is_last(went) {
-        finish(job, went, totals, out, p.used);
-        say(name, p.records, went);
+        finish(rt, job, went, totals, out, p.used);
+        say(rt, name, p.records, went);
         return Progress {
             used: 0,
             went: Went::Stopped,

@@ -1,45 +1,48 @@
 // Lines, collected and written.
 ghost use Rattle.std.specs.Prelude.{◌+◌, ◌≤◌, length};
 
-use libc::STDOUT_FILENO;
+use super::said::fail;
+use std::rt::Runtime;
 
 // Bytes of output that are collected before they are written.
 pub(crate) const OUT: usize = 16384;
 
 // Writes output, and answers whether that was done; where not, says so on standard error.
-fn write_out(out: &[u8], used: usize) -> bool
+fn write_out<R: Runtime>(rt: &R, out: &[u8], used: usize) -> bool
     requires { used ≤ length out.now }
 {
-    let done = io::write_all(STDOUT_FILENO, &out[..used]);
-    if !done {
-        os::fail(b"standard output");
+    match rt.write_all(&out[..used]) {
+        Ok(()) => true,
+        Err(error) => {
+            fail(rt, "standard output", error);
+            false
+        }
     }
-    done
 }
 
 // Writes what is left of the output.
-pub(crate) fn write_rest(out: &[u8; OUT], used: usize)
+pub(crate) fn write_rest<R: Runtime>(rt: &R, out: &[u8; OUT], used: usize)
     requires { used ≤ 16384 }
 {
-    write_out(out, used);
+    write_out(rt, out, used);
 }
 
 // Writes the report.
-pub(crate) fn write_report(text: &[u8; season::TEXT], length: usize)
+pub(crate) fn write_report<R: Runtime>(rt: &R, text: &[u8; season::TEXT], length: usize)
     requires { length ≤ 3733 }
 {
-    write_out(text, length);
+    write_out(rt, text, length);
 }
 
 // Where the next line goes, and whether what stood there before could be written.
-#[derive(Drop)]
+#[derive(Clone, Copy)]
 pub(crate) struct Room {
     pub(crate) at: usize,
     pub(crate) good: bool,
 }
 
 // Writes the output where it has no room for a line of n bytes.
-pub(crate) fn make_room(out: &[u8], used: usize, n: usize) -> Room
+pub(crate) fn make_room<R: Runtime>(rt: &R, out: &[u8], used: usize, n: usize) -> Room
     requires { (used ≤ length out.now) × (n ≤ length out.now) }
     ensures { result.at + n ≤ length out.now }
 {
@@ -49,7 +52,7 @@ pub(crate) fn make_room(out: &[u8], used: usize, n: usize) -> Room
             good: true,
         };
     }
-    let good = write_out(out, used);
+    let good = write_out(rt, out, used);
     Room { at: 0, good }
 }
 

@@ -5,10 +5,11 @@ use super::Job;
 use super::out::{OUT, make_room, put_line, write_report, write_rest};
 use journal::LINE;
 use season::{COUNTS, Turn};
+use std::rt::Runtime;
 
 // How it goes on: with the next record; or the file has ended; or the bytes were no record, or a record would bring a count to
 // 2^64; or the run is stopped, and why is said on standard error already.
-#[derive(Drop)]
+#[derive(Clone, Copy)]
 pub(crate) enum Went {
     On,
     End,
@@ -18,7 +19,7 @@ pub(crate) enum Went {
 }
 
 // How much output is collected, and how it goes on.
-#[derive(Drop)]
+#[derive(Clone, Copy)]
 pub(crate) struct Progress {
     pub(crate) used: usize,
     pub(crate) went: Went,
@@ -30,7 +31,8 @@ fn after_play(good: bool) -> Went {
 
 // Plays a record, or what is left in place of one, and collects its line. The line is made in memory that is lent, so that none is
 // cleared for each record.
-fn replay(
+fn replay<R: Runtime>(
+    rt: &R,
     station: &mut [u8],
     record: &[u8],
     line: &mut [u8; LINE],
@@ -41,7 +43,7 @@ fn replay(
     ensures { result.used ≤ 16384 }
 {
     let p = journal::play(station, record, line);
-    let room = make_room(out, used, p.length);
+    let room = make_room(rt, out, used, p.length);
     if !room.good {
         return Progress {
             used: 0,
@@ -65,7 +67,8 @@ fn count(station: &mut [u8], record: &[u8], totals: &mut [u64; COUNTS]) -> Went 
 }
 
 // Does the job with a record, or with what is left in place of one.
-pub(crate) fn work(
+pub(crate) fn work<R: Runtime>(
+    rt: &R,
     job: Job,
     station: &mut [u8],
     record: &[u8],
@@ -78,7 +81,7 @@ pub(crate) fn work(
     ensures { result.used ≤ 16384 }
 {
     match job {
-        Job::Replay => replay(station, record, line, out, used),
+        Job::Replay => replay(rt, station, record, line, out, used),
         Job::Report => Progress {
             used,
             went: count(station, record, totals),
@@ -86,28 +89,35 @@ pub(crate) fn work(
     }
 }
 
-fn report(totals: &[u64; COUNTS], last: Turn) {
+fn report<R: Runtime>(rt: &R, totals: &[u64; COUNTS], last: Turn) {
     let mut text = [0u8; season::TEXT];
     let length = season::put_report(totals, last, &mut text);
-    write_report(&text, length);
+    write_report(rt, &text, length);
 }
 
 // Writes the counts; none where something stopped the run, since they would pass for those of the whole journal.
-fn report_after(went: Went, totals: &[u64; COUNTS]) {
+fn report_after<R: Runtime>(rt: &R, went: Went, totals: &[u64; COUNTS]) {
     match went {
         Went::Stopped => {}
-        Went::Bad => report(totals, Turn::Bad),
-        Went::Over => report(totals, Turn::Over),
-        _ => report(totals, Turn::Counted),
+        Went::Bad => report(rt, totals, Turn::Bad),
+        Went::Over => report(rt, totals, Turn::Over),
+        _ => report(rt, totals, Turn::Counted),
     }
 }
 
 // Writes what the job still has to write.
-pub(crate) fn finish(job: Job, went: Went, totals: &[u64; COUNTS], out: &[u8; OUT], used: usize)
+pub(crate) fn finish<R: Runtime>(
+    rt: &R,
+    job: Job,
+    went: Went,
+    totals: &[u64; COUNTS],
+    out: &[u8; OUT],
+    used: usize,
+)
     requires { used ≤ 16384 }
 {
     match job {
-        Job::Replay => write_rest(out, used),
-        Job::Report => report_after(went, totals),
+        Job::Replay => write_rest(rt, out, used),
+        Job::Report => report_after(rt, went, totals),
     }
 }

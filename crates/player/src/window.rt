@@ -1,10 +1,13 @@
 // A file, read in pieces.
 ghost use Rattle.std.specs.Prelude.{◌≡◌, ◌≤◌, length};
 
+use super::said::fail;
+use std::io::Read;
+use std::rt::Runtime;
+
 // What of a file is read and not worked yet, from `start` to `end`; whether more may come, and whether a read failed.
-#[derive(Drop)]
+#[derive(Clone, Copy)]
 pub(crate) struct Window {
-    pub(crate) fd: i32,
     pub(crate) start: usize,
     pub(crate) end: usize,
     pub(crate) open: bool,
@@ -12,11 +15,10 @@ pub(crate) struct Window {
 }
 
 // Nothing of a file is read yet.
-pub(crate) fn unread(fd: i32) -> Window
+pub(crate) fn unread() -> Window
     ensures { (result.start ≤ 0) × (result.end ≤ 0) }
 {
     Window {
-        fd,
         start: 0,
         end: 0,
         open: true,
@@ -25,11 +27,10 @@ pub(crate) fn unread(fd: i32) -> Window
 }
 
 // Nothing more of a file is to be had.
-fn broken(fd: i32) -> Window
+fn broken() -> Window
     ensures { (result.start ≤ 0) × (result.end ≤ 0) }
 {
     Window {
-        fd,
         start: 0,
         end: 0,
         open: false,
@@ -49,24 +50,29 @@ fn move_to_front(input: &mut [u8], start: usize, end: usize)
 }
 
 // Reads once, after what is left. A read that fails is named, and what is left is given up.
-fn read_more(name: &[u8], input: &mut [u8], w: Window) -> Window
+fn read_more<R: Runtime, S: Read>(
+    rt: &R,
+    source: &mut S,
+    name: &str,
+    input: &mut [u8],
+    w: Window,
+) -> Window
     requires { (w.start ≤ w.end) × (w.end ≤ length input.old) }
     ensures { (result.start ≤ result.end) × (result.end ≤ length input.old) }
 {
     move_to_front(input, w.start, w.end);
     let left = w.end - w.start;
-    let got = libc::read(w.fd, &mut input[left..]);
-    if got < 0 {
-        os::fail(name);
-        return broken(w.fd);
-    }
-    let n = io::count(got, &input[left..]);
-    Window {
-        fd: w.fd,
-        start: 0,
-        end: left + n,
-        open: 0 < n,
-        failed: false,
+    match source.read(&mut input[left..]) {
+        Ok(n) => Window {
+            start: 0,
+            end: left + n,
+            open: 0 < n,
+            failed: false,
+        },
+        Err(error) => {
+            fail(rt, name, error);
+            broken()
+        }
     }
 }
 
@@ -86,14 +92,20 @@ pub(crate) fn is_short(input: &[u8], w: Window) -> bool
 }
 
 // Reads until the next record is all there, or the input ends. A read brings a byte at least, so that a record's length is enough.
-pub(crate) fn fill(name: &[u8], input: &mut [u8], w: Window) -> Window
+pub(crate) fn fill<R: Runtime, S: Read>(
+    rt: &R,
+    source: &mut S,
+    name: &str,
+    input: &mut [u8],
+    w: Window,
+) -> Window
     requires { (w.start ≤ w.end) × (w.end ≤ length input.old) }
     ensures { (result.start ≤ result.end) × (result.end ≤ length input.old) }
 {
     let mut v = w;
     let mut reads = journal::longest_record();
     while reads > 0 && is_short(input, v) {
-        v = read_more(name, input, v);
+        v = read_more(rt, source, name, input, v);
         reads -= 1;
     }
     v
@@ -112,7 +124,6 @@ pub(crate) fn from(w: Window, next: usize) -> Window
     ensures { (result.start ≡ next) × (result.end ≡ w.end) }
 {
     Window {
-        fd: w.fd,
         start: next,
         end: w.end,
         open: w.open,

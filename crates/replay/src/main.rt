@@ -1,6 +1,6 @@
 // Plays journals on a fresh station and writes a line for each record.
 #![tactic(auto)]
 
-fn main() {
-    player::run(player::Job::Replay);
+fn main(rt: HostRuntime) {
+    player::run(&rt, player::Job::Replay);
 }

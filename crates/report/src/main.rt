@@ -1,6 +1,6 @@
 // Plays journals on a fresh station and writes what they come to for each farm.
 #![tactic(auto)]
 
-fn main() {
-    player::run(player::Job::Report);
+fn main(rt: HostRuntime) {
+    player::run(&rt, player::Job::Report);
 }

@@ -6,29 +6,32 @@ ghost use Rattle.std.specs.Prelude.{◌≤◌};
 
 use blocks::reader::{Address, FIRST};
 use blocks::{BlockAt, Header};
+use std::io;
 
 const AXIS: u8 = 1;
 
 type Part = [u8; part::SIZE];
 
-fn print(text: &[u8]) {
-    io::write_all(1, text);
+fn print(rt: &impl Print, text: &str) -> io::Result<()> {
+    rt.print(text)
 }
 
 fn wide(x: u8) -> u64 {
     x as u64
 }
 
-fn print_number(label: &[u8], n: u64) {
-    print(label);
-    io::print_decimal(1, n);
+fn print_number(rt: &impl Print, label: &str, n: u64) -> io::Result<()> {
+    print(rt, label)?;
+    rt.print(n)
 }
 
-fn print_bytes(s: &[u8]) {
+fn print_bytes(rt: &impl Print, s: &[u8]) -> io::Result<()> {
     for i in 0..s.len() {
-        print(b" ");
-        io::print_hex(1, wide(s[i]), 2);
+        print(rt, " ")?;
+        let x = wide(s[i]);
+        print!(rt; "{x:02x}")?;
     }
+    Ok(())
 }
 
 // The first `len` bytes, or all where there are no more.
@@ -49,18 +52,18 @@ fn waiting<'a>(part: &'a [u8]) -> &'a [u8] {
 }
 
 // Works a block, prints what it comes to, and fetches the response.
-fn work(label: &[u8], mut part: Part, block: &[u8]) -> Part {
+fn work(rt: &impl Print, label: &str, mut part: Part, block: &[u8]) -> io::Result<Part> {
     let r = access::work(&mut part, AXIS, block);
-    print(label);
-    print_number(b" (", block.len() as u64);
-    print_number(b" bytes): number ", wide(r.number));
-    print_number(b", stored ", r.stored as u64);
-    print_number(b", waiting ", wide(part::waiting_length(&part)));
-    print(b":");
-    print_bytes(waiting(&part));
-    print(b"\n");
+    print(rt, label)?;
+    print_number(rt, " (", block.len() as u64)?;
+    print_number(rt, " bytes): number ", wide(r.number))?;
+    print_number(rt, ", stored ", r.stored as u64)?;
+    print_number(rt, ", waiting ", wide(part::waiting_length(&part)))?;
+    print(rt, ":")?;
+    print_bytes(rt, waiting(&part))?;
+    print(rt, "\n")?;
     part::clear_response(&mut part);
-    part
+    Ok(part)
 }
 
 fn fresh() -> Part {
@@ -115,228 +118,309 @@ fn put_addresses(block: &mut [u8], at: usize, n: u8, a: Address)
 }
 
 // A request of n equal addresses.
-fn reads(label: &[u8], part: Part, n: u8, a: Address) -> Part {
+fn reads(rt: &impl Print, label: &str, part: Part, n: u8, a: Address) -> io::Result<Part> {
     let mut block = headed(1, n);
     put_addresses(&mut block, FIRST, n, a);
-    work(label, part, first(&block, FIRST + codes::wide(n) * 6))
+    work(rt, label, part, first(&block, FIRST + codes::wide(n) * 6))
 }
 
-fn read(label: &[u8], part: Part, a: Address) -> Part {
-    reads(label, part, 1, a)
+fn read(rt: &impl Print, label: &str, part: Part, a: Address) -> io::Result<Part> {
+    reads(rt, label, part, 1, a)
 }
 
 // A change of one address, with a block of values.
-fn change(label: &[u8], part: Part, a: Address, format: u8, values: &[u32]) -> Part {
+fn change(
+    rt: &impl Print,
+    label: &str,
+    part: Part,
+    a: Address,
+    format: u8,
+    values: &[u32],
+) -> io::Result<Part> {
     let mut block = headed(2, 1);
     put_address(&mut block, FIRST, a);
     blocks::writer::put_block(&mut block, FIRST + 6, format, values);
     let b = blocks::block_at(&block, FIRST + 6);
     let BlockAt::Stands(h) = b else {
-        return part;
+        return Ok(part);
     };
-    work(label, part, first(&block, h.next))
+    work(rt, label, part, first(&block, h.next))
 }
 
 // Three reads of all 947, which leave 38 bytes of the response, and a fourth address.
-fn fourth(label: &[u8], part: Part, a: Address) -> Part {
+fn fourth(rt: &impl Print, label: &str, part: Part, a: Address) -> io::Result<Part> {
     let mut block = headed(1, 4);
     put_addresses(&mut block, FIRST, 3, value(32, 947, 0));
     put_address(&mut block, FIRST + 18, a);
-    work(label, part, first(&block, FIRST + 24))
+    work(rt, label, part, first(&block, FIRST + 24))
 }
 
 // The worked change: mark 0 is not stored where mark 1 is outside its limits.
-fn marks() {
+fn marks(rt: &impl Print) -> io::Result<()> {
     let part = fresh();
     let part = work(
-        b"marks 1000 and 3001",
+        rt,
+        "marks 1000 and 3001",
         part,
         b"\x07\x02\x01\x01\x10\x02\x75\x31\x00\x00\x42\x02\x03\xE8\x0B\xB9",
-    );
-    read(b"all marks", part, value(4, 30001, 0));
+    )?;
+    read(rt, "all marks", part, value(4, 30001, 0))?;
+    Ok(())
 }
 
 // Of an address with a value outside its limits, wherever it stands, nothing is stored.
-fn whole() {
+fn whole(rt: &impl Print) -> io::Result<()> {
     let all = value(4, 30001, 0);
     let part = fresh();
-    let part = change(b"marks 10 to 40", part, all, 0x42, &[10, 20, 30, 40]);
-    let part = change(b"the first 3001", part, all, 0x42, &[3001, 2, 3, 4]);
-    let part = change(b"the third 3001", part, all, 0x42, &[1, 2, 3001, 4]);
-    let part = change(b"the last 3001", part, all, 0x42, &[1, 2, 3, 3001]);
-    let part = read(b"all marks", part, all);
+    let part = change(rt, "marks 10 to 40", part, all, 0x42, &[10, 20, 30, 40])?;
+    let part = change(rt, "the first 3001", part, all, 0x42, &[3001, 2, 3, 4])?;
+    let part = change(rt, "the third 3001", part, all, 0x42, &[1, 2, 3001, 4])?;
+    let part = change(rt, "the last 3001", part, all, 0x42, &[1, 2, 3, 3001])?;
+    let part = read(rt, "all marks", part, all)?;
     let offsets = value(2, 30004, 0);
-    let part = change(b"offsets 1 and 2", part, offsets, 0x43, &[1, 2]);
-    let part = change(b"offsets 3 and 100001", part, offsets, 0x43, &[3, 100001]);
-    read(b"both offsets", part, offsets);
+    let part = change(rt, "offsets 1 and 2", part, offsets, 0x43, &[1, 2])?;
+    let part = change(
+        rt,
+        "offsets 3 and 100001",
+        part,
+        offsets,
+        0x43,
+        &[3, 100001],
+    )?;
+    read(rt, "both offsets", part, offsets)?;
+    Ok(())
 }
 
-fn limits() {
+fn limits(rt: &impl Print) -> io::Result<()> {
     let part = fresh();
-    let part = change(b"mark 3000", part, value(1, 30001, 3), 0x42, &[3000]);
-    let part = change(b"mark 3001", part, value(1, 30001, 3), 0x42, &[3001]);
-    let part = read(b"all marks", part, value(4, 30001, 0));
-    let part = change(b"10111 of 0", part, value(1, 10111, 0), 0x42, &[0]);
-    let part = change(b"10111 of 1", part, value(1, 10111, 0), 0x42, &[1]);
-    let part = change(b"10111 of 60000", part, value(1, 10111, 0), 0x42, &[60000]);
-    let part = change(b"10111 of 60001", part, value(1, 10111, 0), 0x42, &[60001]);
-    read(b"10111", part, value(1, 10111, 0));
+    let part = change(rt, "mark 3000", part, value(1, 30001, 3), 0x42, &[3000])?;
+    let part = change(rt, "mark 3001", part, value(1, 30001, 3), 0x42, &[3001])?;
+    let part = read(rt, "all marks", part, value(4, 30001, 0))?;
+    let part = change(rt, "10111 of 0", part, value(1, 10111, 0), 0x42, &[0])?;
+    let part = change(rt, "10111 of 1", part, value(1, 10111, 0), 0x42, &[1])?;
+    let part = change(
+        rt,
+        "10111 of 60000",
+        part,
+        value(1, 10111, 0),
+        0x42,
+        &[60000],
+    )?;
+    let part = change(
+        rt,
+        "10111 of 60001",
+        part,
+        value(1, 10111, 0),
+        0x42,
+        &[60001],
+    )?;
+    read(rt, "10111", part, value(1, 10111, 0))?;
+    Ok(())
 }
 
 // Site offsets, by size code and by type code.
-fn offsets() {
+fn offsets(rt: &impl Print) -> io::Result<()> {
     let low = codes::bits32(-100000);
     let under = codes::bits32(-100001);
     let a = value(1, 30004, 0);
     let b = value(1, 30004, 1);
     let part = fresh();
-    let part = change(b"offset -100000", part, a, 0x43, &[low]);
-    let part = change(b"offset -100001", part, a, 0x43, &[under]);
-    let part = change(b"offset 100000", part, b, 0x43, &[100000]);
-    let part = change(b"offset 100001", part, b, 0x43, &[100001]);
-    let part = read(b"both offsets", part, value(2, 30004, 0));
+    let part = change(rt, "offset -100000", part, a, 0x43, &[low])?;
+    let part = change(rt, "offset -100001", part, a, 0x43, &[under])?;
+    let part = change(rt, "offset 100000", part, b, 0x43, &[100000])?;
+    let part = change(rt, "offset 100001", part, b, 0x43, &[100001])?;
+    let part = read(rt, "both offsets", part, value(2, 30004, 0))?;
     let part = fresh();
-    let part = change(b"offset -100000 by 4", part, a, 4, &[low]);
-    let part = change(b"offset -100001 by 4", part, a, 4, &[under]);
-    read(b"both offsets", part, value(2, 30004, 0));
+    let part = change(rt, "offset -100000 by 4", part, a, 4, &[low])?;
+    let part = change(rt, "offset -100001 by 4", part, a, 4, &[under])?;
+    read(rt, "both offsets", part, value(2, 30004, 0))?;
+    Ok(())
 }
 
 // n single elements of 965, which take 4 bytes each with their fill, and three reads of all 947.
-fn filled(label: &[u8], part: Part, n: u8) -> Part
+fn filled(rt: &impl Print, label: &str, part: Part, n: u8) -> io::Result<Part>
     requires { n ≤ 36 }
 {
     let at = FIRST + codes::wide(n) * 6;
     let mut block = headed(1, n + 3);
     put_addresses(&mut block, FIRST, n, value(1, 965, 0));
     put_addresses(&mut block, at, 3, value(32, 947, 0));
-    work(label, part, first(&block, at + 18))
+    work(rt, label, part, first(&block, at + 18))
 }
 
-fn fills() {
+fn fills(rt: &impl Print) -> io::Result<()> {
     let part = fresh();
-    let part = read(b"965, element 0", part, value(1, 965, 0));
-    let part = read(b"965, element 1", part, value(1, 965, 1));
-    let part = read(b"965, both", part, value(2, 965, 0));
-    let part = filled(b"965 nine times and three reads of all 947", part, 9);
-    filled(b"965 ten times and three reads of all 947", part, 10);
+    let part = read(rt, "965, element 0", part, value(1, 965, 0))?;
+    let part = read(rt, "965, element 1", part, value(1, 965, 1))?;
+    let part = read(rt, "965, both", part, value(2, 965, 0))?;
+    let part = filled(rt, "965 nine times and three reads of all 947", part, 9)?;
+    filled(rt, "965 ten times and three reads of all 947", part, 10)?;
+    Ok(())
 }
 
 // The most addresses, and the most bytes of a response.
-fn lengths() {
+fn lengths(rt: &impl Print) -> io::Result<()> {
     let part = fresh();
-    let part = reads(b"39 reads of 930", part, 39, value(1, 930, 0));
-    let part = reads(b"40 reads of 930, cut", part, 40, value(1, 930, 0));
-    let part = fourth(b"four reads of all 947", part, value(32, 947, 0));
-    let part = fourth(b"18 elements in the last 38 bytes", part, value(18, 947, 0));
-    let part = fourth(b"19 elements in the last 38 bytes", part, value(19, 947, 0));
-    let part = fourth(b"0x00 before 0x15", part, value(32, 931, 0));
-    fourth(b"0x03 before 0x15", part, value(32, 947, 1));
+    let part = reads(rt, "39 reads of 930", part, 39, value(1, 930, 0))?;
+    let part = reads(rt, "40 reads of 930, cut", part, 40, value(1, 930, 0))?;
+    let part = fourth(rt, "four reads of all 947", part, value(32, 947, 0))?;
+    let part = fourth(
+        rt,
+        "18 elements in the last 38 bytes",
+        part,
+        value(18, 947, 0),
+    )?;
+    let part = fourth(
+        rt,
+        "19 elements in the last 38 bytes",
+        part,
+        value(19, 947, 0),
+    )?;
+    let part = fourth(rt, "0x00 before 0x15", part, value(32, 931, 0))?;
+    fourth(rt, "0x03 before 0x15", part, value(32, 947, 1))?;
+    Ok(())
 }
 
 // Each error of an address in front of one that comes after it.
-fn read_errors() {
+fn read_errors(rt: &impl Print) -> io::Result<()> {
     let part = fresh();
-    let part = read(b"0x00 before 0x09", part, address(0x20, 1, 931, 0));
-    let part = read(b"0x09 before 0x04", part, address(0x20, 1, 930, 1));
-    let part = read(b"0x0F before 0x04", part, address(0x30, 1, 930, 1));
-    let part = read(b"0x16 (attribute) before 0x04", part, address(0, 1, 930, 1));
-    let part = read(b"0x16 (0 elements) before 0x03", part, value(0, 947, 33));
-    let part = read(b"0x03 of 65535 + 2", part, value(2, 947, 65535));
-    read(b"the last of 947", part, value(1, 947, 31));
+    let part = read(rt, "0x00 before 0x09", part, address(0x20, 1, 931, 0))?;
+    let part = read(rt, "0x09 before 0x04", part, address(0x20, 1, 930, 1))?;
+    let part = read(rt, "0x0F before 0x04", part, address(0x30, 1, 930, 1))?;
+    let part = read(
+        rt,
+        "0x16 (attribute) before 0x04",
+        part,
+        address(0, 1, 930, 1),
+    )?;
+    let part = read(rt, "0x16 (0 elements) before 0x03", part, value(0, 947, 33))?;
+    let part = read(rt, "0x03 of 65535 + 2", part, value(2, 947, 65535))?;
+    read(rt, "the last of 947", part, value(1, 947, 31))?;
+    Ok(())
 }
 
-fn change_errors() {
+fn change_errors(rt: &impl Print) -> io::Result<()> {
     let further = value(1, 930, 1);
     let several = value(2, 930, 0);
     let scale = value(1, 10111, 0);
     let part = fresh();
-    let part = change(b"0x04 (sub-index) before 0x01", part, further, 0x42, &[1]);
-    let part = change(b"0x04 (elements) before 0x01", part, several, 0x42, &[1, 1]);
-    let part = change(b"0x03 before 0x01", part, value(1, 947, 32), 0x42, &[1]);
-    let part = change(b"0x01 before 0x05", part, value(1, 930, 0), 0x41, &[1]);
-    let part = change(b"0x05 before 0x18", part, scale, 0x41, &[0, 0]);
-    let part = change(b"0x18 before 0x02", part, scale, 0x42, &[0, 0]);
-    let part = change(b"0x02", part, scale, 0x42, &[0]);
-    read(b"10111", part, scale);
+    let part = change(
+        rt,
+        "0x04 (sub-index) before 0x01",
+        part,
+        further,
+        0x42,
+        &[1],
+    )?;
+    let part = change(
+        rt,
+        "0x04 (elements) before 0x01",
+        part,
+        several,
+        0x42,
+        &[1, 1],
+    )?;
+    let part = change(rt, "0x03 before 0x01", part, value(1, 947, 32), 0x42, &[1])?;
+    let part = change(rt, "0x01 before 0x05", part, value(1, 930, 0), 0x41, &[1])?;
+    let part = change(rt, "0x05 before 0x18", part, scale, 0x41, &[0, 0])?;
+    let part = change(rt, "0x18 before 0x02", part, scale, 0x42, &[0, 0])?;
+    let part = change(rt, "0x02", part, scale, 0x42, &[0])?;
+    read(rt, "10111", part, scale)?;
+    Ok(())
 }
 
 // 0 elements of a simple parameter count as 1.
-fn counts() {
+fn counts(rt: &impl Print) -> io::Result<()> {
     let none = value(0, 9900, 0);
     let one = value(1, 9900, 0);
     let mark = value(1, 30001, 0);
     let part = fresh();
-    let part = read(b"930, 0 elements", part, value(0, 930, 0));
-    let part = change(b"9900, 0 elements, 1 value", part, none, 0x42, &[5]);
-    let part = change(b"9900, 0 elements, 0 values", part, none, 0x42, &[]);
-    let part = change(b"9900, 1 element, 0 values", part, one, 0x42, &[]);
-    let part = change(b"mark, 1 element, 0 values", part, mark, 0x42, &[]);
-    let part = read(b"9900", part, one);
-    change(b"10111 as it is", part, value(1, 10111, 0), 0x42, &[1500]);
+    let part = read(rt, "930, 0 elements", part, value(0, 930, 0))?;
+    let part = change(rt, "9900, 0 elements, 1 value", part, none, 0x42, &[5])?;
+    let part = change(rt, "9900, 0 elements, 0 values", part, none, 0x42, &[])?;
+    let part = change(rt, "9900, 1 element, 0 values", part, one, 0x42, &[])?;
+    let part = change(rt, "mark, 1 element, 0 values", part, mark, 0x42, &[])?;
+    let part = read(rt, "9900", part, one)?;
+    change(
+        rt,
+        "10111 as it is",
+        part,
+        value(1, 10111, 0),
+        0x42,
+        &[1500],
+    )?;
+    Ok(())
 }
 
 // A value's sign is that of the parameter's type.
-fn formats() {
+fn formats(rt: &impl Print) -> io::Result<()> {
     let minus = codes::bits32(-1);
     let part = fresh();
-    let part = change(b"9900 of 65535", part, value(1, 9900, 0), 0x42, &[65535]);
-    let part = read(b"9900", part, value(1, 9900, 0));
-    let part = change(b"9900 by 6", part, value(1, 9900, 0), 6, &[1]);
-    let part = change(b"9900 by 3", part, value(1, 9900, 0), 3, &[2]);
-    let part = read(b"9900", part, value(1, 9900, 0));
-    let part = change(b"offset -1", part, value(1, 30004, 0), 0x43, &[minus]);
-    let part = change(b"offset by 7", part, value(1, 30004, 0), 7, &[1]);
-    read(b"both offsets", part, value(2, 30004, 0));
+    let part = change(rt, "9900 of 65535", part, value(1, 9900, 0), 0x42, &[65535])?;
+    let part = read(rt, "9900", part, value(1, 9900, 0))?;
+    let part = change(rt, "9900 by 6", part, value(1, 9900, 0), 6, &[1])?;
+    let part = change(rt, "9900 by 3", part, value(1, 9900, 0), 3, &[2])?;
+    let part = read(rt, "9900", part, value(1, 9900, 0))?;
+    let part = change(rt, "offset -1", part, value(1, 30004, 0), 0x43, &[minus])?;
+    let part = change(rt, "offset by 7", part, value(1, 30004, 0), 7, &[1])?;
+    read(rt, "both offsets", part, value(2, 30004, 0))?;
+    Ok(())
 }
 
 // Changes of two addresses.
-fn pairs() {
+fn pairs(rt: &impl Print) -> io::Result<()> {
     let part = fresh();
     let part = work(
-        b"marks 1, 3001 and 2, then 9900 of 5",
+        rt,
+        "marks 1, 3001 and 2, then 9900 of 5",
         part,
         b"\x07\x02\x01\x02\x10\x03\x75\x31\x00\x00\x10\x01\x26\xAC\x00\x00\x42\x03\x00\x01\x0B\xB9\x00\x02\x42\x01\x00\x05",
-    );
-    let part = read(b"all marks", part, value(4, 30001, 0));
-    let part = read(b"9900", part, value(1, 9900, 0));
+    )?;
+    let part = read(rt, "all marks", part, value(4, 30001, 0))?;
+    let part = read(rt, "9900", part, value(1, 9900, 0))?;
     let part = work(
-        b"mark 0 of 7, then of 8",
+        rt,
+        "mark 0 of 7, then of 8",
         part,
         b"\x07\x02\x01\x02\x10\x01\x75\x31\x00\x00\x10\x01\x75\x31\x00\x00\x42\x01\x00\x07\x42\x01\x00\x08",
-    );
-    read(b"all marks", part, value(4, 30001, 0));
+    )?;
+    read(rt, "all marks", part, value(4, 30001, 0))?;
+    Ok(())
 }
 
 // What is refused leaves nothing stored and nothing waiting.
-fn refusals() {
+fn refusals(rt: &impl Print) -> io::Result<()> {
     let part = fresh();
     let two = b"\x07\x02\x02\x01\x10\x01\x75\x31\x00\x00\x42\x01\x03\xE8";
-    let part = work(b"mark 1000 of axis 2", part, two);
-    let part = work(b"the same, a byte short", part, first(two, 13));
+    let part = work(rt, "mark 1000 of axis 2", part, two)?;
+    let part = work(rt, "the same, a byte short", part, first(two, 13))?;
     let part = work(
-        b"930 of axis 2",
+        rt,
+        "930 of axis 2",
         part,
         b"\x07\x01\x02\x01\x10\x01\x03\xA2\x00\x00",
-    );
+    )?;
     let part = work(
-        b"930 with reference 0",
+        rt,
+        "930 with reference 0",
         part,
         b"\x00\x01\x01\x01\x10\x01\x03\xA2\x00\x00",
-    );
-    read(b"all marks", part, value(4, 30001, 0));
+    )?;
+    read(rt, "all marks", part, value(4, 30001, 0))?;
+    Ok(())
 }
 
-fn main() {
-    marks();
-    whole();
-    limits();
-    offsets();
-    lengths();
-    fills();
-    read_errors();
-    change_errors();
-    counts();
-    formats();
-    pairs();
-    refusals();
+fn main(rt: HostRuntime) -> io::Result<()> {
+    marks(&rt)?;
+    whole(&rt)?;
+    limits(&rt)?;
+    offsets(&rt)?;
+    lengths(&rt)?;
+    fills(&rt)?;
+    read_errors(&rt)?;
+    change_errors(&rt)?;
+    counts(&rt)?;
+    formats(&rt)?;
+    pairs(&rt)?;
+    refusals(&rt)
 }

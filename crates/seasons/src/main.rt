@@ -2,13 +2,14 @@
 #![tactic(auto)]
 
 use season::{COUNTS, EACH, Turn};
+use std::io;
 
 type Station = [u8; station::STATION];
 
 type Totals = [u64; COUNTS];
 
-fn print(text: &[u8]) {
-    io::write_all(1, text);
+fn print(rt: &impl Print, text: &str) -> io::Result<()> {
+    rt.print(text)
 }
 
 // A record of a cycle.
@@ -77,76 +78,90 @@ fn others_full() -> Totals {
     totals
 }
 
-fn print_turn(turn: Turn) {
+fn print_turn(rt: &impl Print, turn: Turn) -> io::Result<()> {
     match turn {
-        Turn::Counted => print(b": counted:"),
-        Turn::Bad => print(b": bad:"),
-        Turn::Over => print(b": x 13:"),
+        Turn::Counted => print(rt, ": counted:"),
+        Turn::Bad => print(rt, ": bad:"),
+        Turn::Over => print(rt, ": x 13:"),
     }
 }
 
 // Counts a record and prints how that came out, and farm 1's counts after it.
-fn count(label: &[u8], mut memory: Station, record: &[u8], mut totals: Totals) {
+fn count(
+    rt: &impl Print,
+    label: &str,
+    mut memory: Station,
+    record: &[u8],
+    mut totals: Totals,
+) -> io::Result<()> {
     let turn = season::step(&mut memory, record, &mut totals);
-    print(label);
-    print_turn(turn);
+    print(rt, label)?;
+    print_turn(rt, turn)?;
     for i in 0..EACH {
-        print(b" ");
-        io::print_decimal(1, totals[i]);
+        print(rt, " ")?;
+        rt.print(totals[i])?;
     }
-    print(b"\n");
+    print(rt, "\n")
 }
 
 // Counts a record that adds so many in a place of farm 1: where that comes to 2^64 - 1, and where it comes to 2^64.
-fn both(label: &[u8], memory: Station, record: &[u8], place: usize, adds: u8) {
-    print(label);
+fn both(
+    rt: &impl Print,
+    label: &str,
+    memory: Station,
+    record: &[u8],
+    place: usize,
+    adds: u8,
+) -> io::Result<()> {
+    print(rt, label)?;
     count(
-        b" to 2^64 - 1",
+        rt,
+        " to 2^64 - 1",
         memory,
         record,
         all_but(place, adds as u64 + 1),
-    );
-    print(label);
-    count(b" to 2^64", memory, record, all_but(place, adds as u64));
+    )?;
+    print(rt, label)?;
+    count(rt, " to 2^64", memory, record, all_but(place, adds as u64))
 }
 
 // A cycle that ends in each state. The one that ends in S4 enters it.
-fn states(memory: Station, ready: Station, running: Station) {
-    both(b"S1", memory, &cycle(1, 0x0000, 0), 0, 1);
-    both(b"S2", memory, &cycle(1, 0x047E, 0), 1, 1);
-    both(b"S3", running, &cycle(1, 0x0477, 0), 2, 1);
-    both(b"S4", ready, &cycle(1, 0x047F, 0), 3, 1);
-    both(b"S51", running, &cycle(1, 0x047E, 0), 4, 1);
-    both(b"S52", running, &cycle(1, 0x047B, 0), 5, 1);
+fn states(rt: &impl Print, memory: Station, ready: Station, running: Station) -> io::Result<()> {
+    both(rt, "S1", memory, &cycle(1, 0x0000, 0), 0, 1)?;
+    both(rt, "S2", memory, &cycle(1, 0x047E, 0), 1, 1)?;
+    both(rt, "S3", running, &cycle(1, 0x0477, 0), 2, 1)?;
+    both(rt, "S4", ready, &cycle(1, 0x047F, 0), 3, 1)?;
+    both(rt, "S51", running, &cycle(1, 0x047E, 0), 4, 1)?;
+    both(rt, "S52", running, &cycle(1, 0x047B, 0), 5, 1)
 }
 
 // An entry into S4; an acknowledge, which ends in S2; frames; and a going back.
-fn others(memory: Station, ready: Station) {
-    both(b"entries", ready, &cycle(1, 0x047F, 0), 6, 1);
+fn others(rt: &impl Print, memory: Station, ready: Station) -> io::Result<()> {
+    both(rt, "entries", ready, &cycle(1, 0x047F, 0), 6, 1)?;
     let faulted = after(memory, 0x047E, 5);
-    both(b"acknowledged", faulted, &cycle(1, 0x04FE, 0), 7, 1);
-    both(b"denied", memory, &marks(2), 8, 1);
-    both(b"stored", memory, &marks(1), 9, 2);
+    both(rt, "acknowledged", faulted, &cycle(1, 0x04FE, 0), 7, 1)?;
+    both(rt, "denied", memory, &marks(2), 8, 1)?;
+    both(rt, "stored", memory, &marks(1), 9, 2)?;
     let changed = played(memory, &marks(1));
-    both(b"stored by going back", changed, &back(), 9, 18);
+    both(rt, "stored by going back", changed, &back(), 9, 18)
 }
 
 // Counts that a record does not add to stand in no one's way.
-fn unmoved(memory: Station, ready: Station) {
+fn unmoved(rt: &impl Print, memory: Station, ready: Station) -> io::Result<()> {
     let enters = cycle(1, 0x047F, 0);
-    count(b"S4, S1 full", ready, &enters, all_but(0, 1));
-    count(b"S4, other farms full", ready, &enters, others_full());
+    count(rt, "S4, S1 full", ready, &enters, all_but(0, 1))?;
+    count(rt, "S4, other farms full", ready, &enters, others_full())?;
     let full = [u64::MAX; COUNTS];
-    count(b"axis 17, all full", memory, &cycle(17, 0x047E, 0), full);
-    count(b"version 1 not kept, all full", memory, &back(), full);
-    count(b"no record, all full", memory, b"\x03", full);
+    count(rt, "axis 17, all full", memory, &cycle(17, 0x047E, 0), full)?;
+    count(rt, "version 1 not kept, all full", memory, &back(), full)?;
+    count(rt, "no record, all full", memory, b"\x03", full)
 }
 
-fn main() {
+fn main(rt: HostRuntime) -> io::Result<()> {
     let memory = fresh();
     let ready = after(after(memory, 0x047E, 0), 0x047F, 0);
     let running = after(ready, 0x047F, 0);
-    states(memory, ready, running);
-    others(memory, ready);
-    unmoved(memory, ready);
+    states(&rt, memory, ready, running)?;
+    others(&rt, memory, ready)?;
+    unmoved(&rt, memory, ready)
 }
