@@ -39,9 +39,8 @@ fn print_output(rt: &impl Print, a: Output) -> io::Result<()> {
     let s = a.state;
     let speed = a.speed;
     print_state(rt, s)?;
-    let x = a.status as u64;
-    print!(rt; "{x:04x}")?;
-    print(rt, " ")?;
+    let status = a.status;
+    print!(rt; "{status:04x} ")?;
     print_signed(rt, speed.0)
 }
 
@@ -49,11 +48,9 @@ fn print_output(rt: &impl Print, a: Output) -> io::Result<()> {
 fn print_situation(rt: &impl Print, b: [u16; BUFFER], n: usize) -> io::Result<()>
     requires { n < situations }
 {
-    let mut j: usize = 0;
-    while j < CODES {
+    for j in 0..CODES {
         print(rt, " ")?;
         rt.print(wide(b[n * CODES + j]))?;
-        j += 1;
     }
     Ok(())
 }
