@@ -42,11 +42,7 @@ fn broken() -> Window
 fn move_to_front(input: &mut [u8], start: usize, end: usize)
     requires { (start ≤ end) × (end ≤ length input.old) }
 {
-    let mut i: usize = 0;
-    while i < end - start {
-        input[i] = input[start + i];
-        i += 1;
-    }
+    input.copy_within(start..end, 0);
 }
 
 // Reads once, after what is left. A read that fails is named, and what is left is given up.
