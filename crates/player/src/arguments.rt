@@ -7,9 +7,9 @@ use super::out::OUT;
 use super::record::{Progress, Went};
 use super::said::fail;
 use season::COUNTS;
-use std::env::FillError;
-use std::rt::Runtime;
-use std::{fs, io};
+use std::env::{Env, FillError};
+use std::fs::{Files, OpenOptions};
+use std::io;
 
 // Bytes of a name, at most: more than a path may have.
 const NAME: usize = 4096;
@@ -33,8 +33,8 @@ fn is_end(went: Went) -> bool {
 }
 
 // Plays standard input, after so much output.
-fn play_input<R: Runtime>(
-    rt: &R,
+fn play_input(
+    rt: &HostRuntime,
     job: Job,
     station: &mut [u8],
     input: &mut [u8],
@@ -45,7 +45,7 @@ fn play_input<R: Runtime>(
     requires { used ≤ 16384 }
     ensures { result.used ≤ 16384 }
 {
-    let mut source = rt.reader();
+    let mut source = rt.stdin();
     play_file(
         rt,
         job,
@@ -60,8 +60,8 @@ fn play_input<R: Runtime>(
 }
 
 // Plays the file of a name; one that cannot be opened is named, and ends the run.
-fn play_named<R: Runtime>(
-    rt: &R,
+fn play_named(
+    rt: &HostRuntime,
     job: Job,
     name: &str,
     station: &mut [u8],
@@ -76,7 +76,7 @@ fn play_named<R: Runtime>(
     if is_dash(name) {
         return play_input(rt, job, station, input, totals, out, used);
     }
-    match fs::open(rt, name) {
+    match rt.open_file(OpenOptions::new().read(true), name) {
         Ok(mut file) => play_file(rt, job, &mut file, name, station, input, totals, out, used),
         Err(error) => {
             fail(rt, name, error);
@@ -97,7 +97,7 @@ fn why_not_copied(error: FillError) -> io::Error {
 }
 
 // A name that is no text is named with U+FFFD in place of what is none.
-fn fail_of_name<R: Runtime>(rt: &R, name: &[u8]) {
+fn fail_of_name(rt: &HostRuntime, name: &[u8]) {
     let error = io::Error::from_raw_os_error(EILSEQ);
     match String::from_utf8_lossy(rt.alloc(), name) {
         Ok(text) => fail(rt, text.as_str(), error),
@@ -106,8 +106,8 @@ fn fail_of_name<R: Runtime>(rt: &R, name: &[u8]) {
 }
 
 // Plays the file that an argument names.
-fn play_argument<R: Runtime>(
-    rt: &R,
+fn play_argument(
+    rt: &HostRuntime,
     job: Job,
     i: usize,
     station: &mut [u8],
@@ -140,13 +140,13 @@ fn play_argument<R: Runtime>(
 }
 
 // Whether the program was given so many arguments, its own name not counted.
-fn has_argument<R: Runtime>(rt: &R, i: usize) -> bool {
+fn has_argument(rt: &HostRuntime, i: usize) -> bool {
     !matches!(rt.arg(i, &mut []), Err(FillError::NotPresent))
 }
 
 // Plays the files that the arguments name, each after the end of the one before; with no argument, standard input.
-pub(crate) fn play_arguments<R: Runtime>(
-    rt: &R,
+pub(crate) fn play_arguments(
+    rt: &HostRuntime,
     job: Job,
     station: &mut [u8],
     input: &mut [u8],

@@ -8,7 +8,6 @@ use super::window::{Window, fill, from, is_short, record_end, unread};
 use journal::LINE;
 use season::COUNTS;
 use std::io::Read;
-use std::rt::Runtime;
 
 // How much output is collected, how it goes on, and the input that is left.
 #[derive(Clone, Copy)]
@@ -39,7 +38,7 @@ fn ended(failed: bool) -> Went {
 }
 
 // Writes the output where more of the file has to be waited for, so that a line is there as soon as its record is.
-fn write_before_wait<R: Runtime>(
+fn write_before_wait<R: Print + Eprint + Alloc>(
     rt: &R,
     input: &[u8],
     w: Window,
@@ -60,7 +59,7 @@ fn write_before_wait<R: Runtime>(
 }
 
 // Works one record, if there is one.
-fn play_next<R: Runtime, S: Read>(
+fn play_next<R: Print + Eprint + Alloc, S: Read>(
     rt: &R,
     job: Job,
     source: &mut S,
@@ -115,7 +114,7 @@ fn play_next<R: Runtime, S: Read>(
 
 // Works the records of a file until it does not go on. A proved loop has to end: this one counts up to a number of records that
 // no file has.
-fn play_records<R: Runtime, S: Read>(
+fn play_records<R: Print + Eprint + Alloc, S: Read>(
     rt: &R,
     job: Job,
     source: &mut S,
@@ -151,7 +150,7 @@ fn play_records<R: Runtime, S: Read>(
 }
 
 // Names the record that ended the run.
-fn say<R: Runtime>(rt: &R, name: &str, record: u64, went: Went) {
+fn say<R: Eprint>(rt: &R, name: &str, record: u64, went: Went) {
     let said = match went {
         Went::Over => { eprintln!(rt; "{name}: record {record} would bring a count to 2^64") }
         _ => { eprintln!(rt; "{name}: record {record} is bad") }
@@ -167,7 +166,7 @@ fn is_last(went: Went) -> bool {
 }
 
 // Plays a file to its end, or to the record that ends the run: then the job is finished there, and after that the record is named.
-pub(crate) fn play_file<R: Runtime, S: Read>(
+pub(crate) fn play_file<R: Print + Eprint + Alloc, S: Read>(
     rt: &R,
     job: Job,
     source: &mut S,

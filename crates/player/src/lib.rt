@@ -10,8 +10,6 @@ mod record; // record.rt: what is done with a record, and where the run ends
 mod said; // said.rt: what is said on standard error
 mod window; // window.rt: a file, read in pieces
 
-use std::rt::Runtime;
-
 // Bytes of a file that are read and not worked yet, at most.
 const INPUT: usize = 65536;
 
@@ -24,7 +22,7 @@ pub enum Job {
 
 // Does a job with the journals that the arguments name. It promises to be safe and to end, and no more: no contract can say what
 // is read or written. What a record does to the station, its line and its counts are promised where it is worked, in `journal` and `season`.
-pub fn run<R: Runtime>(rt: &R, job: Job) {
+pub fn run(rt: &HostRuntime, job: Job) {
     let mut station = [0u8; station::STATION];
     station::fresh(&mut station);
     let mut input = [0u8; INPUT];

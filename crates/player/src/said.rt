@@ -1,9 +1,8 @@
 // What is said on standard error. Where nobody hears it, nothing else is lost.
 use std::io;
-use std::rt::Runtime;
 
 // Says what failed and why, in the system's words.
-pub(crate) fn fail<R: Runtime>(rt: &R, what: &str, error: io::Error) {
+pub(crate) fn fail<R: Eprint + Alloc>(rt: &R, what: &str, error: io::Error) {
     let said = match format!(in rt.alloc(); "{error}") {
         Ok(text) => {
             let words = without_number(text.as_str());

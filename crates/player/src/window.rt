@@ -3,7 +3,6 @@ ghost use Rattle.std.specs.Prelude.{◌≡◌, ◌≤◌, length};
 
 use super::said::fail;
 use std::io::Read;
-use std::rt::Runtime;
 
 // What of a file is read and not worked yet, from `start` to `end`; whether more may come, and whether a read failed.
 #[derive(Clone, Copy)]
@@ -46,7 +45,7 @@ fn move_to_front(input: &mut [u8], start: usize, end: usize)
 }
 
 // Reads once, after what is left. A read that fails is named, and what is left is given up.
-fn read_more<R: Runtime, S: Read>(
+fn read_more<R: Eprint + Alloc, S: Read>(
     rt: &R,
     source: &mut S,
     name: &str,
@@ -88,7 +87,7 @@ pub(crate) fn is_short(input: &[u8], w: Window) -> bool
 }
 
 // Reads until the next record is all there, or the input ends. A read brings a byte at least, so that a record's length is enough.
-pub(crate) fn fill<R: Runtime, S: Read>(
+pub(crate) fn fill<R: Eprint + Alloc, S: Read>(
     rt: &R,
     source: &mut S,
     name: &str,
