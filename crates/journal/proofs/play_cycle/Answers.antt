@@ -1,0 +1,17 @@
+-- The line of what the host is told.
+use Prim.Native.Nat.{◌≤◌}
+use mathlib.Core.Path.{sym, ap}
+use native.Mathlib.Omega.{arith}
+use lib.ListN.{length}
+use Rattle.journal.specs.Line.{cycle_call, line_of}
+use Rattle.journal.proofs.Pieces.{wrote_first, promised_first, and_then, said, char}
+use Rattle.journal.proofs.play_cycle.Goals as goal
+
+pub returns : goal.returns
+returns c =
+    let a = c.args in
+    let pre = c.requires in
+    let room : c.put_byte.result ≤ length a.line.now = omega (arith, c.put_byte.ensures.value, c.put_cycle-next.ensures.value.1, pre) in
+    let line = ap (line_of (cycle_call a.bytes.now)) (sym c.cycle-c.ensures.result_value) in
+    let w = promised_first {k = 513} (said (and_then (wrote_first (c.put_cycle-next.ensures.line_after, c.put_cycle-next.ensures.value)) (char (c.put_byte.ensures.line_after, c.put_byte.ensures.value)) room) line) (omega (arith, c.put_byte.ensures.value, c.put_cycle-next.ensures.value.1)) in
+    record { line_after = w.0; value = w.1; station_after = c.cycle-c.ensures.station_after }
