@@ -96,13 +96,11 @@ fn why_not_copied(error: FillError) -> io::Error {
     }
 }
 
-// A name that is no text is named with U+FFFD in place of what is none.
+// A name that is no text is said by its bytes, as they are.
 fn fail_of_name(rt: &HostRuntime, name: &[u8]) {
-    let error = io::Error::from_raw_os_error(EILSEQ);
-    match String::from_utf8_lossy(rt.alloc(), name) {
-        Ok(text) => fail(rt, text.as_str(), error),
-        Err(_) => fail(rt, "argument", error),
-    }
+    let said = rt.stderr().write_all(name);
+    let _ = said;
+    fail(rt, "", io::Error::from_raw_os_error(EILSEQ));
 }
 
 // Plays the file that an argument names.

@@ -38,7 +38,7 @@ fn ended(failed: bool) -> Went {
 }
 
 // Writes the output where more of the file has to be waited for, so that a line is there as soon as its record is.
-fn write_before_wait<R: Print + Eprint + Alloc>(
+fn write_before_wait<R: Print + Eprint>(
     rt: &R,
     input: &[u8],
     w: Window,
@@ -59,7 +59,7 @@ fn write_before_wait<R: Print + Eprint + Alloc>(
 }
 
 // Works one record, if there is one.
-fn play_next<R: Print + Eprint + Alloc, S: Read>(
+fn play_next<R: Print + Eprint, S: Read>(
     rt: &R,
     job: Job,
     source: &mut S,
@@ -114,7 +114,7 @@ fn play_next<R: Print + Eprint + Alloc, S: Read>(
 
 // Works the records of a file until it does not go on. A proved loop has to end: this one counts up to a number of records that
 // no file has.
-fn play_records<R: Print + Eprint + Alloc, S: Read>(
+fn play_records<R: Print + Eprint, S: Read>(
     rt: &R,
     job: Job,
     source: &mut S,
@@ -166,7 +166,7 @@ fn is_last(went: Went) -> bool {
 }
 
 // Plays a file to its end, or to the record that ends the run: then the job is finished there, and after that the record is named.
-pub(crate) fn play_file<R: Print + Eprint + Alloc, S: Read>(
+pub(crate) fn play_file<R: Print + Eprint, S: Read>(
     rt: &R,
     job: Job,
     source: &mut S,

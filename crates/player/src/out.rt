@@ -7,7 +7,7 @@ use super::said::fail;
 pub(crate) const OUT: usize = 16384;
 
 // Writes output, and answers whether that was done; where not, says so on standard error.
-fn write_out<R: Print + Eprint + Alloc>(rt: &R, out: &[u8], used: usize) -> bool
+fn write_out<R: Print + Eprint>(rt: &R, out: &[u8], used: usize) -> bool
     requires { used ≤ length out.now }
 {
     match rt.write_all(&out[..used]) {
@@ -20,18 +20,14 @@ fn write_out<R: Print + Eprint + Alloc>(rt: &R, out: &[u8], used: usize) -> bool
 }
 
 // Writes what is left of the output.
-pub(crate) fn write_rest<R: Print + Eprint + Alloc>(rt: &R, out: &[u8; OUT], used: usize)
+pub(crate) fn write_rest<R: Print + Eprint>(rt: &R, out: &[u8; OUT], used: usize)
     requires { used ≤ 16384 }
 {
     write_out(rt, out, used);
 }
 
 // Writes the report.
-pub(crate) fn write_report<R: Print + Eprint + Alloc>(
-    rt: &R,
-    text: &[u8; season::TEXT],
-    length: usize,
-)
+pub(crate) fn write_report<R: Print + Eprint>(rt: &R, text: &[u8; season::TEXT], length: usize)
     requires { length ≤ 3733 }
 {
     write_out(rt, text, length);
@@ -45,12 +41,7 @@ pub(crate) struct Room {
 }
 
 // Writes the output where it has no room for a line of n bytes.
-pub(crate) fn make_room<R: Print + Eprint + Alloc>(
-    rt: &R,
-    out: &[u8],
-    used: usize,
-    n: usize,
-) -> Room
+pub(crate) fn make_room<R: Print + Eprint>(rt: &R, out: &[u8], used: usize, n: usize) -> Room
     requires { (used ≤ length out.now) × (n ≤ length out.now) }
     ensures { result.at + n ≤ length out.now }
 {

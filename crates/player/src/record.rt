@@ -30,7 +30,7 @@ fn after_play(good: bool) -> Went {
 
 // Plays a record, or what is left in place of one, and collects its line. The line is made in memory that is lent, so that none is
 // cleared for each record.
-fn replay<R: Print + Eprint + Alloc>(
+fn replay<R: Print + Eprint>(
     rt: &R,
     station: &mut [u8],
     record: &[u8],
@@ -66,7 +66,7 @@ fn count(station: &mut [u8], record: &[u8], totals: &mut [u64; COUNTS]) -> Went 
 }
 
 // Does the job with a record, or with what is left in place of one.
-pub(crate) fn work<R: Print + Eprint + Alloc>(
+pub(crate) fn work<R: Print + Eprint>(
     rt: &R,
     job: Job,
     station: &mut [u8],
@@ -88,14 +88,14 @@ pub(crate) fn work<R: Print + Eprint + Alloc>(
     }
 }
 
-fn report<R: Print + Eprint + Alloc>(rt: &R, totals: &[u64; COUNTS], last: Turn) {
+fn report<R: Print + Eprint>(rt: &R, totals: &[u64; COUNTS], last: Turn) {
     let mut text = [0u8; season::TEXT];
     let length = season::put_report(totals, last, &mut text);
     write_report(rt, &text, length);
 }
 
 // Writes the counts; none where something stopped the run, since they would pass for those of the whole journal.
-fn report_after<R: Print + Eprint + Alloc>(rt: &R, went: Went, totals: &[u64; COUNTS]) {
+fn report_after<R: Print + Eprint>(rt: &R, went: Went, totals: &[u64; COUNTS]) {
     match went {
         Went::Stopped => {}
         Went::Bad => report(rt, totals, Turn::Bad),
@@ -105,7 +105,7 @@ fn report_after<R: Print + Eprint + Alloc>(rt: &R, went: Went, totals: &[u64; CO
 }
 
 // Writes what the job still has to write.
-pub(crate) fn finish<R: Print + Eprint + Alloc>(
+pub(crate) fn finish<R: Print + Eprint>(
     rt: &R,
     job: Job,
     went: Went,

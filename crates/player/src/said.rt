@@ -1,15 +1,15 @@
 // What is said on standard error. Where nobody hears it, nothing else is lost.
+use std::fmt::InlineText;
 use std::io;
 
+// Bytes of the system's words for an error that are kept, at most.
+const WORDS: usize = 256;
+
 // Says what failed and why, in the system's words.
-pub(crate) fn fail<R: Eprint + Alloc>(rt: &R, what: &str, error: io::Error) {
-    let said = match format!(in rt.alloc(); "{error}") {
-        Ok(text) => {
-            let words = without_number(text.as_str());
-            eprintln!(rt; "{what}: {words}")
-        }
-        Err(_) => eprintln!(rt; "{what}: {error}"),
-    };
+pub(crate) fn fail<R: Eprint>(rt: &R, what: &str, error: io::Error) {
+    let text = InlineText::<WORDS>::of(error);
+    let words = without_number(text.as_str());
+    let said = eprintln!(rt; "{what}: {words}");
     let _ = said;
 }
 

@@ -45,7 +45,7 @@ fn move_to_front(input: &mut [u8], start: usize, end: usize)
 }
 
 // Reads once, after what is left. A read that fails is named, and what is left is given up.
-fn read_more<R: Eprint + Alloc, S: Read>(
+fn read_more<R: Eprint, S: Read>(
     rt: &R,
     source: &mut S,
     name: &str,
@@ -87,7 +87,7 @@ pub(crate) fn is_short(input: &[u8], w: Window) -> bool
 }
 
 // Reads until the next record is all there, or the input ends. A read brings a byte at least, so that a record's length is enough.
-pub(crate) fn fill<R: Eprint + Alloc, S: Read>(
+pub(crate) fn fill<R: Eprint, S: Read>(
     rt: &R,
     source: &mut S,
     name: &str,
