@@ -29,8 +29,9 @@ fn answer_size(f: u8, n: u8) -> usize
     requires { 0x40 ≤ f }
     ensures { result ≡ 2 + values_size f n }
 {
+    // The two bytes before the values, and what fills them up to an even number, in one rounding.
     let bare = codes::wide(n) * blocks::code_size(f);
-    2 + bare + bare % 2
+    (bare + 3) / 2 * 2
 }
 
 // Whether each block of a readable response has as many values as its address in a readable request asks. Both have `count` of them.
@@ -55,7 +56,9 @@ fn counts_fit(request: &[u8], response: &[u8], count: u8) -> bool
     true
 }
 
-// Checks 3 to 7, of a readable request and a readable response.
+// Checks 3 to 7, of a readable request and a readable response. A function of its own, so that its loop has the registers to itself and no
+// byte of the request is kept in memory while the response is read.
+#[inline(never)]
 fn compare(request: &[u8], response: &[u8]) -> u8
     requires { BothRead request.now response.now }
     ensures { AsRead request.now response.now (λ q r. result ≡ compared q r) }
@@ -84,7 +87,9 @@ fn compare(request: &[u8], response: &[u8]) -> u8
     }
 }
 
-// The number of the first check that failed, in the order of R-4; 0 for a yes.
+// The number of the first check that failed, in the order of R-4; 0 for a yes. A function of its own, so that the slices of the exported
+// call are made before it saves registers, and it saves fewer.
+#[inline(never)]
 pub fn check(request: &[u8], response: &[u8]) -> u8
     ensures { result ≡ check_of request.now response.now }
 {
