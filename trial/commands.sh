@@ -100,6 +100,8 @@ ended() {
     exec 8>"$pipe.in"
     head -c 27 crates/replay/stdin >&8
     until_running "$pipe.in" 2
+    # One that comes just as bash begins to wait is heard by bash only when the program has ended.
+    sleep 0.5
     kill -s "$signal" "$pid"
     wait "$pid" && fail "'$*' goes on after $signal"
     until_running "$pipe.in" 0
