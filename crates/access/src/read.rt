@@ -26,10 +26,8 @@ fn gather(part: &[u8], r: Row, i: u16, n: u16, values: &mut [u32; MOST])
     requires { (i + n ≤ buffer_codes) × (length values.old ≡ buffer_codes) }
     ensures { (length values.new ≡ buffer_codes) × (take n values.new ≡ elements_from r i n part.now) }
 {
-    let mut j: u16 = 0;
-    while j < n {
+    for j in 0..n {
         values[j as usize] = catalogue::element(part, r, i + j);
-        j += 1;
     }
 }
 
@@ -108,16 +106,14 @@ pub(crate) fn read_all(part: &[u8], block: &[u8], n: usize, out: &mut [u8]) -> W
     let mut at = blocks::reader::FIRST;
     let mut used = blocks::reader::FIRST;
     let mut error = false;
-    let mut left = n;
-    while 0 < left {
+    for after in (0..n).rev() {
         let Some((a, next)) = blocks::reader::address_at(block, at) else {
             return Written { next: used, error };
         };
-        left -= 1;
-        let w = read_one(part, a, out, used, left);
+        let w = read_one(part, a, out, used, after);
         at = next;
         used = w.next;
-        error = codes::either(error, w.error);
+        error |= w.error;
     }
     Written { next: used, error }
 }
@@ -128,7 +124,7 @@ pub(crate) fn answer(part: &mut [u8], block: &[u8], h: Header)
     ensures { part.new ≡ responded_part (worked_read (request_in block.now) part.old) }
 {
     let mut body = [0u8; blocks::BLOCK_LIMIT];
-    let w = read_all(part, block, codes::wide(h.count), &mut body);
+    let w = read_all(part, block, h.count as usize, &mut body);
     if w.error {
         reply::respond(part, h, 0x81, body, w.next);
     } else {
