@@ -14,7 +14,7 @@ ghost use Rattle.access.specs.Walk.{block_in, blocks_in, answer_in, Did, DidAll,
 
 use super::reply::Written;
 use super::{ParameterError, Refused, address, copies, reply};
-use blocks::reader::Address;
+use blocks::reader::{Address, FIRST, address_at};
 use blocks::{Head, Header};
 use catalogue::{Kind, Row};
 
@@ -198,15 +198,15 @@ pub(crate) fn change_all(part: &mut [u8], block: &[u8], n: usize, out: &mut [u8]
     requires { (length (walk n block.now 4) ≡ n) × (length (blocks_in n block.now (4 + n * 6)) ≡ n) × (n ≤ 39) × (length out.old ≡ block_limit) }
     ensures { DidAll (change_all (walk n block.now 4) (blocks_in n block.now (4 + n * 6)) part.old) part.new out.old out.new result }
 {
-    let mut at = blocks::reader::FIRST;
+    let mut at = FIRST;
     let mut from = at + n * 6;
     let mut all = Changes {
-        next: blocks::reader::FIRST,
+        next: FIRST,
         error: false,
         stored: 0,
     };
     for _ in 0..n {
-        let Some((a, next)) = blocks::reader::address_at(block, at) else {
+        let Some((a, next)) = address_at(block, at) else {
             return all;
         };
         let h = head_here(block, from);
@@ -242,7 +242,7 @@ pub(crate) fn answer(part: &mut [u8], block: &[u8], h: Header) -> Result<u16, Re
     if d.error {
         reply::respond(part, h, 0x82, body, d.next);
     } else {
-        reply::respond(part, h, 0x02, body, blocks::reader::FIRST);
+        reply::respond(part, h, 0x02, body, FIRST);
     }
     Ok(d.stored)
 }
