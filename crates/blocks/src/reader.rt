@@ -43,7 +43,7 @@ fn step_at(s: &[u8], at: usize) -> Option<(Address, usize)>
     if s.len() - 6 < at {
         return None;
     }
-    if FIRST + codes::wide(codes::byte_at(s, 3)) * 6 < at + 6 {
+    if FIRST + usize::from(codes::byte_at(s, 3)) * 6 < at + 6 {
         return None;
     }
     Some((address_here(s, at), at + 6))

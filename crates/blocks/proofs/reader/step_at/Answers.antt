@@ -15,10 +15,10 @@ returns-then-s-at c =
     let b : Bytes c.args.s.now = λ i. omega (arith, c.type_inv.s i) in
     sym (address_short c.args.s.now b c.args.at (omega arith))
 
-pub returns-then-wide-at : goal.returns-then-wide-at
-returns-then-wide-at c =
-    sym (address_end c.args.s.now c.args.at (omega (arith, c.wide.ensures, c.byte_at.ensures)))
+pub returns-then-from-at : goal.returns-then-from-at
+returns-then-from-at c =
+    sym (address_end c.args.s.now c.args.at (omega (arith, c.from.ensures, c.byte_at.ensures)))
 
 pub returns : goal.returns
 returns c =
-    sym (address_next c.args.s.now c.args.at _ _ c.address_here.ensures (omega (arith, c.wide.ensures, c.byte_at.ensures)))
+    sym (address_next c.args.s.now c.args.at _ _ c.address_here.ensures (omega (arith, c.from.ensures, c.byte_at.ensures)))
