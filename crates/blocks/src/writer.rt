@@ -50,11 +50,7 @@ pub fn put_block(out: &mut [u8], at: usize, f: u8, values: &[u32])
         return;
     };
     let z = super::layout::sizes_of(f, n);
-    let bytes = 2 + z.bare + z.fill;
-    if out.len() < bytes {
-        return;
-    }
-    if out.len() - bytes < at {
+    if !codes::stands(out.len(), at, 2 + z.bare + z.fill) {
         return;
     }
     out[at] = f;

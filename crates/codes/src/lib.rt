@@ -31,7 +31,7 @@ pub fn between(low: u8, x: u8, high: u8) -> bool
 }
 
 // Whether w bytes stand at `at` in a slice of `len` bytes.
-fn stands(len: usize, at: usize, w: usize) -> bool
+pub fn stands(len: usize, at: usize, w: usize) -> bool
     ensures { IsTrue result ↔ (at + w ≤ len) }
 {
     at <= len && w <= len - at

@@ -5,19 +5,12 @@ use native.Mathlib.Omega.{arith}
 use mathlib.Core.Path.{◌≡◌, sym}
 use Rattle.blocks.proofs.writer.put_block.Goals as goal
 
-pub returns-then-out-bytes : goal.returns-then-out-bytes
-returns-then-out-bytes c =
+pub returns-then-not-stands : goal.returns-then-not-stands
+returns-then-not-stands c =
     let a = c.args in
     let n : c.in-Ok.n ≡ length a.values.now = omega (arith, c.in-Ok.ensures) in
     let z = rw n at c.sizes_of-z.ensures in
-    sym (block_too_long a.out.now a.at a.f a.values.now (omega (arith, c.in-Ok.ensures)) (omega (arith, z.1, z.2)))
-
-pub returns-then-out-bytes-2 : goal.returns-then-out-bytes-2
-returns-then-out-bytes-2 c =
-    let a = c.args in
-    let n : c.in-Ok.n ≡ length a.values.now = omega (arith, c.in-Ok.ensures) in
-    let z = rw n at c.sizes_of-z.ensures in
-    sym (block_too_long a.out.now a.at a.f a.values.now (omega (arith, c.in-Ok.ensures)) (omega (arith, z.1, z.2)))
+    sym (block_too_long a.out.now a.at a.f a.values.now (omega (arith, c.in-Ok.ensures)) (grind (arith, z.1, z.2)))
 
 pub returns : goal.returns
 returns c =
