@@ -13,7 +13,8 @@ mod word; // word.rt: the bits of a control word
 
 pub use faults::Faults;
 pub use speed::{N2, Rpm, scale, size};
-pub use states::State;
+pub use states::{State, UnknownState};
+use word::Word;
 
 // What an axis keeps from one cycle to the next.
 #[derive(Clone, Copy)]
@@ -128,55 +129,48 @@ pub fn with_faults(m: Motion, f: Faults) -> Drive
 }
 
 // Step 1, the word.
+#[tactic(auto, unfolding(crate::specs::Cycle::word_used))]
 fn word_used(received: u16, last: u16) -> u16
     ensures { result ≡ word_used received last }
 {
-    let b = word::decode(received);
-    if b.b10 { received } else { last }
+    if Word::from(received).b10 {
+        received
+    } else {
+        last
+    }
 }
 
 // Step 1, the setpoint.
+#[tactic(auto, unfolding(crate::specs::Cycle::setpoint_used))]
 fn setpoint_used(stw1: u16, received: N2, last: N2) -> N2
     ensures { result ≡ setpoint_used stw1 received last }
 {
-    let b = word::decode(stw1);
-    if b.b10 { received } else { last }
+    if Word::from(stw1).b10 { received } else { last }
 }
 
 // Step 5.
-fn effective_setpoint(s: State, b: word::Word, last: N2, setpoint: N2) -> N2
+#[tactic(auto, unfolding(crate::specs::Cycle::effective_of))]
+fn effective_setpoint(s: State, b: Word, last: N2, setpoint: N2) -> N2
     ensures { result ≡ effective_of s b last setpoint }
 {
-    let running = states::is_s4(s);
-    if running {
-        if b.b4 {
-            if b.b6 {
-                if b.b5 {
-                    return setpoint;
-                }
-                return last;
-            }
-        }
+    if s != State::S4 || !b.b4 || !b.b6 {
+        return N2(0);
     }
-    N2(0)
+    if b.b5 { setpoint } else { last }
 }
 
 // Whether a cycle leaves the faults as they are: no code is sent, and nothing is acknowledged. `empty`: situation 0 is.
+#[tactic(auto, unfolding(crate::specs::Motion::quiet_of, crate::specs::Cycle::word_of))]
 pub fn is_quiet(last: u16, empty: bool, i: Input) -> bool
     ensures { result ≡ quiet_of last empty i }
 {
-    if i.fault != 0 {
-        return false;
-    }
-    if empty {
-        return true;
-    }
-    let before = word::decode(last);
-    let b = word::decode(word_used(i.stw1, last));
-    if b.b7 { before.b7 } else { true }
+    let before = Word::from(last);
+    let b = Word::from(word_used(i.stw1, last));
+    i.fault == 0 && (empty || !b.b7 || before.b7)
 }
 
 // Steps 1 and 4 to 7, which are told of steps 2 and 3 whether situation 0 is not empty after them, and whether step 2 acknowledged.
+#[tactic(auto, unfolding(crate::specs::Motion::moved_of))]
 pub fn move_on(m: Motion, faulted: bool, acknowledged: bool, i: Input) -> MotionEnd
     ensures { result ≡ moved_of m faulted acknowledged i }
 {
@@ -187,7 +181,7 @@ pub fn move_on(m: Motion, faulted: bool, acknowledged: bool, i: Input) -> Motion
     let nist = i.nist;
     let w = word_used(i.stw1, m.word); // step 1
     let setpoint = setpoint_used(i.stw1, nsoll, last_setpoint);
-    let b = word::decode(w);
+    let b = Word::from(w);
     let s = states::state_after(faulted, last_state, b, i.standstill); // step 4
     let entered = states::enters_s4(last_state, s);
     let e = effective_setpoint(s, b, last_effective, setpoint); // step 5
@@ -217,12 +211,13 @@ pub fn move_on(m: Motion, faulted: bool, acknowledged: bool, i: Input) -> Motion
 }
 
 // One control cycle of one axis, in the steps of document 01.
+#[tactic(auto, unfolding(crate::specs::Cycle::cycle_of, crate::specs::Motion::moved_of))]
 pub fn cycle(d: Drive, i: Input) -> CycleEnd
     ensures { result ≡ cycle_of d i }
 {
     let last_faults = d.faults;
-    let b = word::decode(word_used(i.stw1, d.word)); // step 1, the word
-    let acknowledged = faults::acknowledges(b, word::decode(d.word), i.fault, last_faults); // step 2
+    let b = Word::from(word_used(i.stw1, d.word)); // step 1, the word
+    let acknowledged = faults::acknowledges(b, Word::from(d.word), i.fault, last_faults); // step 2
     let left = faults::after_ack(acknowledged, last_faults);
     let f = faults::after_code(i.fault, left); // step 3
     let empty = faults::is_empty(f);

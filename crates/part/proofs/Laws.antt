@@ -22,8 +22,10 @@ use Rattle.drive.specs.Cycle.{cycle_of}
 use Rattle.drive.proofs.Laws.{keeps_length, keeps_proper}
 use Rattle.versions.specs.Fit.{versions_fit}
 use Rattle.part.specs.Layout.{length_at, response_at, versions_at, waiting_length, response_room, waiting, with_response, versions}
-use Rattle.part.specs.Record.{number_of, put_drive, drive_of}
-use Rattle.part.specs.WellFormed.{is_state, waiting_fits, unused_fit, well_formed}
+use Rattle.part.specs.Record.{put_drive, drive_of}
+use Rattle.drive.specs.States.{number_of}
+use Rattle.part.specs.WellFormed.{waiting_fits, unused_fit, well_formed}
+use Rattle.drive.specs.States.{is_state}
 use Rattle.part.proofs.Rule.{form_of, form_is}
 pub use Rattle.part.proofs.Cycled.{InputFits, loaded_fits, cycled_fits}
 pub use Rattle.part.proofs.Stored.{Fits, of_record, drive_length, drive_response, drive_element, stored_is_loaded}

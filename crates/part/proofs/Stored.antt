@@ -23,7 +23,8 @@ use Rattle.catalogue.specs.declared.Row.{Row}
 use Rattle.catalogue.specs.declared.Found.TheVariants.{At}
 use Rattle.catalogue.specs.Element.{element_of, every_row}
 use Rattle.part.specs.Layout.{state_at, effective_at, length_at, part_size}
-use Rattle.part.specs.Record.{number_of, state_of, words_at, faults_of, drive_of, put_drive}
+use Rattle.part.specs.Record.{words_at, faults_of, drive_of, put_drive}
+use Rattle.drive.specs.States.{number_of, state_of}
 use Rattle.part.specs.WellFormed.{limits_fit, fixed_fit}
 use Rattle.part.proofs.Kept.{row_passes, row_safe, tested_safe, element_same, limits_same, fixed_same}
 use Rattle.part.proofs.Waiting.{byte_written}

@@ -30,8 +30,10 @@ use Rattle.versions.proofs.FitLaws.{dec_eq, Inside, rows_inside, inside_rows, re
 use Rattle.versions.proofs.Inner.{SameElements, taken_alike}
 use Rattle.versions.proofs.Laws.{settings_alike, restored_as_kept}
 use Rattle.part.specs.Layout.{state_at, effective_at, length_at, response_at, versions_at, part_size, waiting_length, response_room, waiting, middle, versions, with_version, with_settings}
-use Rattle.part.specs.Record.{state_of, faults_of, drive_of}
-use Rattle.part.specs.WellFormed.{is_state, limits_fit, fixed_fit, waiting_fits, unused_fit, well_formed}
+use Rattle.part.specs.Record.{faults_of, drive_of}
+use Rattle.drive.specs.States.{state_of}
+use Rattle.part.specs.WellFormed.{limits_fit, fixed_fit, waiting_fits, unused_fit, well_formed}
+use Rattle.drive.specs.States.{is_state}
 use Rattle.part.proofs.Rule.{form_of, form_is}
 use Rattle.part.proofs.Kept.{tested_safe, limits_same, fixed_same, same_asked}
 use Rattle.part.proofs.Laws.{drop_later, same_waits, same_unused, same_versions}

@@ -49,7 +49,7 @@ fn answered(a: Output) -> CycleDone
     let told = Cycled {
         rpm: v.0,
         status: a.status,
-        state: part::number_of(s),
+        state: u8::from(s),
         number: 0,
     };
     CycleDone {
