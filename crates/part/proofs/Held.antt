@@ -83,12 +83,14 @@ module _ (bs p : List ℕ) where
   pub response_drive : drive_of (with_response bs p) ≡ drive_of p
   unfolding drive_of offset_of find_of rows parameter_bytes
   response_drive = λ j. record {
-    state = state_of (response_state j);
-    word = response_apart 2 (offset_of 10100) refl j;
-    setpoint = ap (λ (x : ℕ). record { 0 = signed_of 2 x }) (response_apart 2 (offset_of 10101) refl) j;
-    effective = ap (λ (x : ℕ). record { 0 = signed_of 2 x }) (response_apart 2 effective_at refl) j;
-    status = response_apart 2 (offset_of 10102) refl j;
-    actual = ap (λ (x : ℕ). record { 0 = signed_of 2 x }) (response_apart 2 (offset_of 10103) refl) j;
+    motion = record {
+      state = state_of (response_state j);
+      word = response_apart 2 (offset_of 10100) refl j;
+      setpoint = ap (λ (x : ℕ). record { 0 = signed_of 2 x }) (response_apart 2 (offset_of 10101) refl) j;
+      effective = ap (λ (x : ℕ). record { 0 = signed_of 2 x }) (response_apart 2 effective_at refl) j;
+      status = response_apart 2 (offset_of 10102) refl j;
+      actual = ap (λ (x : ℕ). record { 0 = signed_of 2 x }) (response_apart 2 (offset_of 10103) refl) j;
+    };
     faults = response_faults j;
   }
 

@@ -76,7 +76,7 @@ drive_well_formed axis d p e proper f =
     let kept = drive_response d p f.whole in
     form_is axis (put_drive d p) (record {
       size = drive_length d p f.whole ∙ g.size;
-      state = ap is_state (state_stored d p g.size f) ∙ is_state_lem d.state;
+      state = ap is_state (state_stored d p g.size f) ∙ is_state_lem d.motion.state;
       limits = drive_limits d p f.whole ∙ g.limits;
       fixed = drive_fixed d p f.whole ∙ g.fixed;
       faults = ap proper_faults (faults_stored d p g.size f) ∙ proper;

@@ -159,12 +159,14 @@ module _ (p q : List ℕ) (front : take versions_at q ≡ take versions_at p) wh
   pub front_drive : drive_of q ≡ drive_of p
   unfolding drive_of offset_of find_of rows parameter_bytes
   front_drive = λ j. record {
-    state = state_of (front_number p q front 1 state_at refl j);
-    word = front_number p q front 2 (offset_of 10100) refl j;
-    setpoint = ap (λ (x : ℕ). record { 0 = signed_of 2 x }) (front_number p q front 2 (offset_of 10101) refl) j;
-    effective = ap (λ (x : ℕ). record { 0 = signed_of 2 x }) (front_number p q front 2 effective_at refl) j;
-    status = front_number p q front 2 (offset_of 10102) refl j;
-    actual = ap (λ (x : ℕ). record { 0 = signed_of 2 x }) (front_number p q front 2 (offset_of 10103) refl) j;
+    motion = record {
+      state = state_of (front_number p q front 1 state_at refl j);
+      word = front_number p q front 2 (offset_of 10100) refl j;
+      setpoint = ap (λ (x : ℕ). record { 0 = signed_of 2 x }) (front_number p q front 2 (offset_of 10101) refl) j;
+      effective = ap (λ (x : ℕ). record { 0 = signed_of 2 x }) (front_number p q front 2 effective_at refl) j;
+      status = front_number p q front 2 (offset_of 10102) refl j;
+      actual = ap (λ (x : ℕ). record { 0 = signed_of 2 x }) (front_number p q front 2 (offset_of 10103) refl) j;
+    };
     faults = front_faults j;
   }
 

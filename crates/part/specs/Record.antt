@@ -25,12 +25,14 @@ faults_of p = record { counter = number_at 2 p (offset_of 944); buffer = words_a
 unfoldable pub drive_of : List ℕ → Drive
 drive_of p =
     record {
-      state = state_of (number_at 1 p state_at);
-      word = number_at 2 p (offset_of 10100);
-      setpoint = speed_at p (offset_of 10101);
-      effective = speed_at p effective_at;
-      status = number_at 2 p (offset_of 10102);
-      actual = speed_at p (offset_of 10103);
+      motion = record {
+        state = state_of (number_at 1 p state_at);
+        word = number_at 2 p (offset_of 10100);
+        setpoint = speed_at p (offset_of 10101);
+        effective = speed_at p effective_at;
+        status = number_at 2 p (offset_of 10102);
+        actual = speed_at p (offset_of 10103);
+      };
       faults = faults_of p;
     }
 
