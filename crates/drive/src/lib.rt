@@ -83,7 +83,7 @@ pub fn fresh() -> Drive
             status: 0x0340,
             actual: N2(0),
         },
-        faults: faults::no_faults(),
+        faults: Faults::none(),
     }
 }
 
@@ -170,7 +170,7 @@ pub fn cycle(d: Drive, i: Input) -> CycleEnd
     let acknowledged = faults::acknowledges(b, Word::from(last), i.fault, d.faults); // step 2
     let left = faults::after_ack(acknowledged, d.faults);
     let f = faults::after_code(i.fault, left); // step 3
-    let end = move_on(d.motion, !faults::is_empty(f), acknowledged, i); // steps 1 and 4 to 7
+    let end = move_on(d.motion, !f.is_empty(), acknowledged, i); // steps 1 and 4 to 7
     CycleEnd {
         drive: Drive {
             motion: end.motion,

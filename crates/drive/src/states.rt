@@ -42,6 +42,7 @@ impl TryFrom<u8> for State {
 
     ghost try_from_gives = { λ n r. r ≡ state_found n };
 
+    #[inline]
     #[tactic(auto, unfolding(crate::specs::States::state_found, crate::specs::States::state_of))]
     fn try_from(n: u8) -> Result<Self, UnknownState> {
         match n {

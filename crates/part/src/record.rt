@@ -8,6 +8,7 @@ ghost use Rattle.catalogue.specs.Table.{offset_of};
 ghost use Rattle.part.specs.Record.{words_at, speed_at, faults_of, drive_of, put_word, put_speed, put_faults, put_motion, put_drive};
 ghost use Rattle.drive.specs.States.{number_of, state_of};
 
+use drive::faults::BUFFER;
 use drive::{Drive, Faults, Motion, N2, State};
 
 fn speed_at(part: &[u8], at: usize) -> N2
@@ -17,14 +18,12 @@ fn speed_at(part: &[u8], at: usize) -> N2
 }
 
 // The codes of every fault situation.
-fn codes_of(part: &[u8]) -> [u16; drive::faults::BUFFER]
+fn codes_of(part: &[u8]) -> [u16; BUFFER]
     ensures { result ≡ words_at buffer_codes part.now (offset_of 947) }
 {
-    let mut b = [0u16; drive::faults::BUFFER];
-    let mut i: usize = 0;
-    while i < drive::faults::BUFFER {
+    let mut b = [0u16; BUFFER];
+    for i in 0..BUFFER {
         b[i] = codes::word_at(part, catalogue::AT_947 as usize + i * 2);
-        i += 1;
     }
     b
 }
@@ -73,16 +72,14 @@ fn put_speed(part: &mut [u8], at: usize, v: N2)
 }
 
 // The codes of every situation; nothing where they do not all fit.
-fn put_codes(part: &mut [u8], b: [u16; drive::faults::BUFFER])
+fn put_codes(part: &mut [u8], b: [u16; BUFFER])
     ensures { part.new ≡ put part.old (offset_of 947) (write_all (word 2).write b) }
 {
     if part.len() < catalogue::AT_965 as usize {
         return;
     }
-    let mut i: usize = 0;
-    while i < drive::faults::BUFFER {
-        put_word(part, catalogue::AT_947 as usize + i * 2, b[i]);
-        i += 1;
+    for (i, x) in b.iter().enumerate() {
+        put_word(part, catalogue::AT_947 as usize + i * 2, *x);
     }
 }
 
