@@ -5,7 +5,7 @@ ghost use Rattle.std.specs.Prelude.{◌<◌};
 ghost use Rattle.drive.specs.Faults.{situations};
 
 use drive::faults::{BUFFER, CODES};
-use drive::{Drive, Faults, Input, N2, Output, State};
+use drive::{Drive, Faults, Input, N2, Output};
 use std::io;
 
 fn print(rt: &impl Print, text: &str) -> io::Result<()> {
@@ -23,25 +23,10 @@ fn print_signed(rt: &impl Print, z: i32) -> io::Result<()> {
     rt.print(drive::size(z) as u64)
 }
 
-fn print_state(rt: &impl Print, s: State) -> io::Result<()> {
-    match s {
-        State::S1 => print(rt, "S1 "),
-        State::S2 => print(rt, "S2 "),
-        State::S3 => print(rt, "S3 "),
-        State::S4 => print(rt, "S4 "),
-        State::S51 => print(rt, "S51 "),
-        State::S52 => print(rt, "S52 "),
-    }
-}
-
 // The state, ZSW1 and rpm, as a journal's line has them.
 fn print_output(rt: &impl Print, a: Output) -> io::Result<()> {
-    let s = a.state;
-    let speed = a.speed;
-    print_state(rt, s)?;
-    let status = a.status;
-    print!(rt; "{status:04x} ")?;
-    print_signed(rt, speed.0)
+    print!(rt; "{} {:04x} ", a.state, a.status)?;
+    print_signed(rt, a.speed.0)
 }
 
 // The codes of situation n.
