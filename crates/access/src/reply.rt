@@ -40,5 +40,5 @@ pub(crate) fn respond(part: &mut [u8], h: Header, id: u8, body: [u8; blocks::BLO
     };
     let mut out = body;
     blocks::writer::put_header(&mut out, header);
-    part::put_response(part, out, n as u8);
+    part::put_response(part, &out[..n]);
 }
