@@ -14,7 +14,7 @@ use lib.Signed.{lt_z}
 use borrow.Author.Tests.{lt-ltb, le-ltb}
 use Rattle.journal.specs.declared.writing.Text.{Text}
 use Rattle.journal.specs.Text.{digit, decimal_in, decimal, signed}
-use Rattle.journal.specs.Written.{Wrote}
+use Rattle.journal.specs.Written.{room, Wrote, WroteIfFits}
 
 -- nothing more
 pub wrote_none : (n : ℕ) (t : Text) → Wrote n [] t t
@@ -39,6 +39,10 @@ said w e = rw e w
 -- within a larger bound
 pub within : {m n : ℕ} {bs : List ℕ} {t u : Text} → Wrote m bs t u → m ≤ n → Wrote n bs t u
 within w h = record { same_memory = w.same_memory; text = w.text; left = w.left; longer = w.longer; size = w.size; limit = omega (arith, w.limit) }
+
+-- what is written where it fits, where there is room for it
+pub fitted : (n : ℕ) {bs : List ℕ} {t u : Text} → WroteIfFits bs t u → length bs ≤ n → room n t → Wrote n bs t u
+fitted n w short space = within (w.fits (omega arith)) short
 
 -- all of the memory, of a text that nothing stood before
 pub whole : {n : ℕ} {bs : List ℕ} {t u : Text} → Wrote n bs t u → t.written ≡ 0 → u.memory.now ≡ bs ++ drop u.written t.memory.now
