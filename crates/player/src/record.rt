@@ -4,7 +4,7 @@ ghost use Rattle.std.specs.Prelude.{◌≤◌};
 use super::Job;
 use super::out::{OUT, make_room, put_line, write_report, write_rest};
 use journal::LINE;
-use season::{COUNTS, Turn};
+use season::{COUNTS, Stop};
 
 // How it goes on: with the next record; or the file has ended; or the bytes were no record, or a record would bring a count to
 // 2^64; or the run is stopped, and why is said on standard error already.
@@ -59,9 +59,9 @@ fn replay<R: Print + Eprint>(
 // Counts a record, or what is left in place of one.
 fn count(station: &mut [u8], record: &[u8], totals: &mut [u64; COUNTS]) -> Went {
     match season::step(station, record, totals) {
-        Turn::Counted => Went::On,
-        Turn::Bad => Went::Bad,
-        Turn::Over => Went::Over,
+        Ok(()) => Went::On,
+        Err(Stop::Bad) => Went::Bad,
+        Err(Stop::Over) => Went::Over,
     }
 }
 
@@ -88,7 +88,7 @@ pub(crate) fn work<R: Print + Eprint>(
     }
 }
 
-fn report<R: Print + Eprint>(rt: &R, totals: &[u64; COUNTS], last: Turn) {
+fn report<R: Print + Eprint>(rt: &R, totals: &[u64; COUNTS], last: Result<(), Stop>) {
     let mut text = [0u8; season::TEXT];
     let length = season::put_report(totals, last, &mut text);
     write_report(rt, &text, length);
@@ -98,9 +98,9 @@ fn report<R: Print + Eprint>(rt: &R, totals: &[u64; COUNTS], last: Turn) {
 fn report_after<R: Print + Eprint>(rt: &R, went: Went, totals: &[u64; COUNTS]) {
     match went {
         Went::Stopped => {}
-        Went::Bad => report(rt, totals, Turn::Bad),
-        Went::Over => report(rt, totals, Turn::Over),
-        _ => report(rt, totals, Turn::Counted),
+        Went::Bad => report(rt, totals, Err(Stop::Bad)),
+        Went::Over => report(rt, totals, Err(Stop::Over)),
+        _ => report(rt, totals, Ok(())),
     }
 }
 
