@@ -1,63 +1,54 @@
 // Lines, collected and written.
-ghost use Rattle.std.specs.Prelude.{◌+◌, ◌≤◌, length};
+ghost use Rattle.std.specs.Prelude.{◌≡◌, ◌≤◌, length};
 
+use super::Stop;
 use super::said::fail;
 
 // Bytes of output that are collected before they are written.
-pub(crate) const OUT: usize = 16384;
+const ROOM: usize = 16384;
 
-// Writes output, and answers whether that was done; where not, says so on standard error.
-fn write_out<R: Print + Eprint>(rt: &R, out: &[u8], used: usize) -> bool
-    requires { used ≤ length out.now }
-{
-    match rt.write_all(&out[..used]) {
-        Ok(()) => true,
-        Err(error) => {
-            fail(rt, "standard output", error);
-            false
+// Writes text, all of it.
+pub(crate) fn write<R: Print + Eprint>(rt: &R, text: &[u8]) -> Result<(), Stop> {
+    rt.write_all(text)
+        .map_err(|error| fail(rt, "standard output", error))
+}
+
+// The output that is collected: as many bytes as are used.
+#[derive(Drop)]
+pub(crate) struct Output {
+    bytes: [u8; ROOM],
+    used: usize,
+    ghost inside: { used ≤ 16384 },
+}
+
+impl Output {
+    // Nothing is collected yet.
+    pub(crate) fn new() -> Output {
+        Output {
+            bytes: [0; ROOM],
+            used: 0,
         }
     }
-}
 
-// Writes what is left of the output.
-pub(crate) fn write_rest<R: Print + Eprint>(rt: &R, out: &[u8; OUT], used: usize)
-    requires { used ≤ 16384 }
-{
-    write_out(rt, out, used);
-}
-
-// Writes the report.
-pub(crate) fn write_report<R: Print + Eprint>(rt: &R, text: &[u8; season::TEXT], length: usize)
-    requires { length ≤ 3733 }
-{
-    write_out(rt, text, length);
-}
-
-// Where the next line goes, and whether what stood there before could be written.
-#[derive(Clone, Copy)]
-pub(crate) struct Room {
-    pub(crate) at: usize,
-    pub(crate) good: bool,
-}
-
-// Writes the output where it has no room for a line of n bytes.
-pub(crate) fn make_room<R: Print + Eprint>(rt: &R, out: &[u8], used: usize, n: usize) -> Room
-    requires { (used ≤ length out.now) × (n ≤ length out.now) }
-    ensures { result.at + n ≤ length out.now }
-{
-    if n <= out.len() - used {
-        return Room {
-            at: used,
-            good: true,
-        };
+    // Writes what is collected, or gives it up.
+    pub(crate) fn write_all<R: Print + Eprint>(&mut self, rt: &R) -> Result<(), Stop>
+        ensures { self.new.used ≡ 0 }
+    {
+        let used = self.used;
+        self.used = 0;
+        write(rt, &self.bytes[..used])
     }
-    let good = write_out(rt, out, used);
-    Room { at: 0, good }
-}
 
-// Puts the first n bytes of a line's memory at a place of the output.
-pub(crate) fn put_line(out: &mut [u8], at: usize, line: &[u8], n: usize)
-    requires { n ≤ length line.now }
-{
-    codes::put_bytes(out, at, &line[..n]);
+    // Collects a line, after writing what leaves it no room.
+    pub(crate) fn put_line<R: Print + Eprint>(&mut self, rt: &R, line: &[u8]) -> Result<(), Stop>
+        requires { length line.now ≤ 16384 }
+    {
+        if ROOM - self.used < line.len() {
+            self.write_all(rt)?;
+        }
+        let end = self.used + line.len();
+        self.bytes[self.used..end].copy_from_slice(line);
+        self.used = end;
+        Ok(())
+    }
 }
