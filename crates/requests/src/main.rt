@@ -15,6 +15,8 @@ const ADDRESS: usize = 6;
 
 type Part = [u8; part::SIZE];
 
+type Block = [u8; blocks::BLOCK_LIMIT];
+
 // The first `len` bytes, or all where there are no more.
 fn first(s: &[u8], len: usize) -> &[u8] {
     s.get(..len).unwrap_or(s)
@@ -65,7 +67,7 @@ fn value(elements: u8, pnu: u16, subindex: u16) -> Address {
 }
 
 // A header, and zeros after it.
-fn headed(identifier: u8, count: u8) -> [u8; blocks::BLOCK_LIMIT] {
+fn headed(identifier: u8, count: u8) -> Block {
     let mut block = [0; blocks::BLOCK_LIMIT];
     let h = Header {
         reference: 7,
@@ -77,16 +79,18 @@ fn headed(identifier: u8, count: u8) -> [u8; blocks::BLOCK_LIMIT] {
     block
 }
 
-// Its six bytes.
+// The bytes of an address.
 fn bytes_of(a: Address) -> [u8; ADDRESS] {
     let [p, q] = a.pnu.to_be_bytes();
     let [i, j] = a.subindex.to_be_bytes();
     [a.attribute, a.elements, p, q, i, j]
 }
 
-// Puts an address in each place of a block for one, at most n times.
-fn put_addresses(places: &mut [u8], n: u8, a: Address) {
-    for place in places.chunks_exact_mut(ADDRESS).take(usize::from(n)) {
+// The same address n times, from `at` on; not where the block ends before it does.
+fn put_addresses(block: &mut Block, at: usize, n: u8, a: Address)
+    requires { at ≤ 240 }
+{
+    for place in block[at..].chunks_exact_mut(ADDRESS).take(usize::from(n)) {
         place.copy_from_slice(&bytes_of(a));
     }
 }
@@ -94,7 +98,7 @@ fn put_addresses(places: &mut [u8], n: u8, a: Address) {
 // A request of n equal addresses.
 fn reads(rt: &impl Print, label: &str, part: Part, n: u8, a: Address) -> io::Result<Part> {
     let mut block = headed(1, n);
-    put_addresses(&mut block[FIRST..], n, a);
+    put_addresses(&mut block, FIRST, n, a);
     work(
         rt,
         label,
@@ -117,7 +121,7 @@ fn change(
     values: &[u32],
 ) -> io::Result<Part> {
     let mut block = headed(2, 1);
-    put_addresses(&mut block[FIRST..], 1, a);
+    put_addresses(&mut block, FIRST, 1, a);
     blocks::writer::put_block(&mut block, FIRST + ADDRESS, format, values);
     let Some(h) = blocks::block_at(&block, FIRST + ADDRESS) else {
         return Ok(part);
@@ -128,9 +132,9 @@ fn change(
 // Three reads of all 947, which leave 38 bytes of the response, and a fourth address.
 fn fourth(rt: &impl Print, label: &str, part: Part, a: Address) -> io::Result<Part> {
     let mut block = headed(1, 4);
-    put_addresses(&mut block[FIRST..], 3, value(32, 947, 0));
-    put_addresses(&mut block[FIRST + 3 * ADDRESS..], 1, a);
-    work(rt, label, part, &block[..FIRST + 4 * ADDRESS])
+    put_addresses(&mut block, FIRST, 3, value(32, 947, 0));
+    put_addresses(&mut block, FIRST + 3 * ADDRESS, 1, a);
+    work(rt, label, part, first(&block, FIRST + 4 * ADDRESS))
 }
 
 // The worked change: mark 0 is not stored where mark 1 is outside its limits.
@@ -219,8 +223,8 @@ fn filled(rt: &impl Print, label: &str, part: Part, n: u8) -> io::Result<Part>
 {
     let at = FIRST + usize::from(n) * ADDRESS;
     let mut block = headed(1, n + 3);
-    put_addresses(&mut block[FIRST..], n, value(1, 965, 0));
-    put_addresses(&mut block[at..], 3, value(32, 947, 0));
+    put_addresses(&mut block, FIRST, n, value(1, 965, 0));
+    put_addresses(&mut block, at, 3, value(32, 947, 0));
     work(rt, label, part, first(&block, at + 3 * ADDRESS))
 }
 
