@@ -13,7 +13,7 @@ ghost use Rattle.access.specs.Work.{worked_read};
 ghost use Rattle.access.specs.Walk.{Wrote, WroteAll, request_in, responded_part};
 
 use super::reply::Written;
-use super::{Checked, copies, reply};
+use super::{ParameterError, address, copies, reply};
 use blocks::Header;
 use blocks::reader::Address;
 use catalogue::Row;
@@ -75,7 +75,7 @@ fn put_elements(
     let bytes = (n as usize) * each;
     let size = 2 + bytes + bytes % 2;
     if blocks::BLOCK_LIMIT < at + size + 4 * after {
-        return reply::put_failed(out, at, 0x15);
+        return reply::put_failed(out, at, ParameterError::NoRoom);
     }
     let from = (r.offset as usize) + (i as usize) * each;
     if part.len() < from + bytes {
@@ -94,10 +94,9 @@ fn read_one(part: &[u8], a: Address, out: &mut [u8], at: usize, after: usize) ->
     requires { (at ≤ block_limit) × (after ≤ block_limit) × (length out.old ≡ block_limit) }
     ensures { Wrote out.old out.new at (read_block part.now at after a) result }
 {
-    let c = super::address::check_read(a);
-    match c {
-        Checked::Error(e) => reply::put_failed(out, at, e),
-        Checked::Elements(r, n) => put_elements(part, r, a.subindex, n, out, at, after),
+    match address::check(a) {
+        Err(e) => reply::put_failed(out, at, e),
+        Ok((r, n)) => put_elements(part, r, a.subindex, n, out, at, after),
     }
 }
 

@@ -32,12 +32,12 @@ fn waiting(part: &Part) -> &[u8] {
 
 // Works a block, prints what it comes to, and fetches the response.
 fn work(rt: &impl Print, label: &str, mut part: Part, block: &[u8]) -> io::Result<Part> {
-    let r = access::work(&mut part, AXIS, block);
+    let (number, stored) = match access::work(&mut part, AXIS, block) {
+        Ok(stored) => (0, stored),
+        Err(refused) => (u8::from(refused), 0),
+    };
     let (bytes, n) = (block.len(), part::waiting_length(&part));
-    print!(rt;
-        "{label} ({bytes} bytes): number {}, stored {}, waiting {n}:",
-        r.number, r.stored
-    )?;
+    print!(rt; "{label} ({bytes} bytes): number {number}, stored {stored}, waiting {n}:")?;
     for byte in waiting(&part) {
         print!(rt; " {byte:02x}")?;
     }
