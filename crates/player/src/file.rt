@@ -20,7 +20,7 @@ impl Player {
         name: &str,
     ) -> Result<bool, Stop> {
         if self.window.is_short() {
-            self.output.write_all(rt)?;
+            self.output.flush(rt)?;
         }
         self.window.fill(rt, source, name)?;
         Ok(!self.window.is_empty())

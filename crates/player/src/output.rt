@@ -23,15 +23,17 @@ pub(crate) struct Output {
 
 impl Output {
     // Nothing is collected yet.
-    pub(crate) fn new() -> Output {
+    pub(crate) fn new() -> Output
+        ensures { result.used ≡ 0 }
+    {
         Output {
             bytes: [0; ROOM],
             used: 0,
         }
     }
 
-    // Writes what is collected, or gives it up.
-    pub(crate) fn write_all<R: Print + Eprint>(&mut self, rt: &R) -> Result<(), Stop>
+    // Writes what is collected; where that fails it is given up.
+    pub(crate) fn flush<R: Print + Eprint>(&mut self, rt: &R) -> Result<(), Stop>
         ensures { self.new.used ≡ 0 }
     {
         let used = self.used;
@@ -44,7 +46,7 @@ impl Output {
         requires { length line.now ≤ 16384 }
     {
         if ROOM - self.used < line.len() {
-            self.write_all(rt)?;
+            self.flush(rt)?;
         }
         let end = self.used + line.len();
         self.bytes[self.used..end].copy_from_slice(line);

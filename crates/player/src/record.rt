@@ -53,7 +53,7 @@ impl Player {
     pub(crate) fn finish<R: Print + Eprint>(&mut self, rt: &R, played: Result<(), Stop>) {
         match self.job {
             Job::Replay => {
-                let _ = self.output.write_all(rt);
+                let _ = self.output.flush(rt);
             }
             Job::Report => report_after(rt, played, &self.totals),
         }

@@ -21,7 +21,9 @@ pub(crate) struct Window {
 
 impl Window {
     // Nothing of a file is read yet.
-    pub(crate) fn new() -> Window {
+    pub(crate) fn new() -> Window
+        ensures { (result.start ≡ 0) × (result.end ≡ 0) }
+    {
         Window {
             bytes: [0; ROOM],
             start: 0,
@@ -31,7 +33,9 @@ impl Window {
     }
 
     // Nothing of the next file is read yet.
-    pub(crate) fn begin(&mut self) {
+    pub(crate) fn begin(&mut self)
+        ensures { (self.new.start ≡ 0) × (self.new.end ≡ 0) }
+    {
         self.start = 0;
         self.end = 0;
         self.open = true;
