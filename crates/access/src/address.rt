@@ -26,10 +26,10 @@ fn of_array(a: Address, r: Row) -> Result<(Row, u16), ParameterError>
     if a.elements == 0 {
         return Err(ParameterError::BadAddress);
     }
-    if usize::from(r.count) < usize::from(a.subindex) + usize::from(a.elements) {
+    if (r.count as usize) < (a.subindex as usize) + (a.elements as usize) {
         return Err(ParameterError::PastTheEnd);
     }
-    Ok((r, u16::from(a.elements)))
+    Ok((r, a.elements as u16))
 }
 
 fn of_row(a: Address, r: Row) -> Result<(Row, u16), ParameterError>

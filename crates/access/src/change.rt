@@ -14,7 +14,7 @@ ghost use Rattle.access.specs.Walk.{block_in, blocks_in, answer_in, Did, DidAll,
 
 use super::reply::Written;
 use super::{ParameterError, Refused, address, copies, reply};
-use blocks::reader::Address;
+use blocks::reader::{Address, FIRST, address_at};
 use blocks::{Head, Header};
 use catalogue::{Kind, Row};
 
@@ -38,8 +38,7 @@ pub struct Changes {
 fn is_format(k: Kind, f: u8) -> bool
     ensures { result ≡ (eqb f (size_code k) || eqb f (type_code k)) }
 {
-    let same_size = f == catalogue::size_code(k);
-    codes::either(same_size, f == catalogue::type_code(k))
+    f == catalogue::size_code(k) || f == catalogue::type_code(k)
 }
 
 // The value of a kind whose bytes stand at `at`: the width is known from the kind, so no bound of one or two bytes is tested.
@@ -62,14 +61,11 @@ fn all_inside(r: Row, block: &[u8], v: Values) -> bool
 {
     let k = r.kind;
     let mut at = v.at;
-    let mut untested = v.count;
-    while 0 < untested {
-        let x = value_here(k, block, at);
-        if !catalogue::is_within(r, x) {
+    for _ in 0..v.count {
+        if !catalogue::is_within(r, value_here(k, block, at)) {
             return false;
         }
         at += v.size;
-        untested -= 1;
     }
     true
 }
@@ -80,14 +76,9 @@ fn store_each(part: &mut [u8], r: Row, i: u16, block: &[u8], v: Values)
     ensures { part.new ≡ store_from r i (numbers_at v.size v.count block.now v.at) part.old }
 {
     let mut at = v.at;
-    let mut to = i;
-    let mut left = v.count;
-    while 0 < left {
-        let x = codes::number_at(block, at, v.size);
-        catalogue::put_element(part, r, to, x);
+    for to in i..i + v.count {
+        catalogue::put_element(part, r, to, codes::number_at(block, at, v.size));
         at += v.size;
-        to += 1;
-        left -= 1;
     }
 }
 
@@ -193,7 +184,7 @@ fn head_here(block: &[u8], at: usize) -> Head
     let f = block[at];
     let n = block[at + 1];
     let size = blocks::format_size(f);
-    let bare = codes::wide(n) * size;
+    let bare = (n as usize) * size;
     Head {
         format: f,
         count: n,
@@ -207,15 +198,15 @@ pub(crate) fn change_all(part: &mut [u8], block: &[u8], n: usize, out: &mut [u8]
     requires { (length (walk n block.now 4) ≡ n) × (length (blocks_in n block.now (4 + n * 6)) ≡ n) × (n ≤ 39) × (length out.old ≡ block_limit) }
     ensures { DidAll (change_all (walk n block.now 4) (blocks_in n block.now (4 + n * 6)) part.old) part.new out.old out.new result }
 {
-    let mut at = blocks::reader::FIRST;
+    let mut at = FIRST;
     let mut from = at + n * 6;
     let mut all = Changes {
-        next: blocks::reader::FIRST,
+        next: FIRST,
         error: false,
         stored: 0,
     };
     for _ in 0..n {
-        let Some((a, next)) = blocks::reader::address_at(block, at) else {
+        let Some((a, next)) = address_at(block, at) else {
             return all;
         };
         let h = head_here(block, from);
@@ -241,7 +232,7 @@ pub(crate) fn answer(part: &mut [u8], block: &[u8], h: Header) -> Result<u16, Re
     let mut body = [0u8; blocks::BLOCK_LIMIT];
     let used_up = part::is_used_up(part);
     let open = if used_up { 0 } else { part.len() };
-    let d = change_all(&mut part[..open], block, codes::wide(h.count), &mut body);
+    let d = change_all(&mut part[..open], block, h.count as usize, &mut body);
     if d.stored != 0 {
         if used_up {
             return Err(Refused::UsedUp);
@@ -251,7 +242,7 @@ pub(crate) fn answer(part: &mut [u8], block: &[u8], h: Header) -> Result<u16, Re
     if d.error {
         reply::respond(part, h, 0x82, body, d.next);
     } else {
-        reply::respond(part, h, 0x02, body, blocks::reader::FIRST);
+        reply::respond(part, h, 0x02, body, FIRST);
     }
     Ok(d.stored)
 }

@@ -1,6 +1,6 @@
 -- The loop's invariant: what is left to do from where it stands is what was to be done at first.
 use mathlib.Core.Path.{◌≡◌, sym, ◌∙◌}
-use mathlib.Core.Bool.{Bool, true, ◌||◌}
+use mathlib.Core.Bool.{Bool, ◌||◌}
 use Prim.Native.Nat.{◌+◌, ◌-◌, ◌<◌}
 use native.Mathlib.Omega.{arith}
 use Rattle.access.proofs.Reading.{walk_end}
