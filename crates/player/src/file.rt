@@ -3,10 +3,12 @@ use super::{Player, Stop};
 use std::io::Read;
 
 // Names the record that ended the run.
-fn say<R: Eprint>(rt: &R, name: &str, record: u64, stop: Stop) {
+fn say<R: Eprint>(rt: &R, name: &str, record: u64, stop: season::Stop) {
     let _ = match stop {
-        Stop::Over => { eprintln!(rt; "{name}: record {record} would bring a count to 2^64") }
-        _ => { eprintln!(rt; "{name}: record {record} is bad") }
+        season::Stop::Over => {
+            eprintln!(rt; "{name}: record {record} would bring a count to 2^64")
+        }
+        season::Stop::Bad => { eprintln!(rt; "{name}: record {record} is bad") }
     };
 }
 
@@ -27,12 +29,9 @@ impl Player {
     }
 
     // Ends the run at a record: the job is finished there, and after that the record is named.
-    fn stop_at<R: Print + Eprint>(&mut self, rt: &R, name: &str, record: u64, stop: Stop) -> Stop {
-        if stop != Stop::Said {
-            self.finish(rt, Err(stop));
-            say(rt, name, record, stop);
-        }
-        Stop::Said
+    fn stop_at<R: Print + Eprint>(&mut self, rt: &R, name: &str, record: u64, stop: season::Stop) {
+        self.finish(rt, Err(Stop::At(stop)));
+        say(rt, name, record, stop);
     }
 
     // Plays a file to its end, or to the record that ends the run. A proved loop has to end: this one counts up to a number of records
@@ -48,9 +47,12 @@ impl Player {
             if !self.has_record(rt, source, name)? {
                 break;
             }
-            if let Err(stop) = self.work(rt) {
-                return Err(self.stop_at(rt, name, record, stop));
+            let worked = self.work(rt);
+            if let Err(Stop::At(stop)) = worked {
+                self.stop_at(rt, name, record, stop);
+                return Err(Stop::Said);
             }
+            worked?;
         }
         Ok(())
     }

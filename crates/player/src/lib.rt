@@ -23,13 +23,18 @@ pub enum Job {
     Report,
 }
 
-// Why the run ends before its journals do: the bytes were no record; or a record would bring a count to 2^64; or why is said on
-// standard error already.
-#[derive(Clone, Copy, PartialEq, Eq)]
+// Why the run ends before its journals do: at a record that was bad, or would bring a count to 2^64; or why is said on standard
+// error already.
+#[derive(Clone, Copy)]
 enum Stop {
-    Bad,
-    Over,
+    At(season::Stop),
     Said,
+}
+
+impl From<season::Stop> for Stop {
+    fn from(stop: season::Stop) -> Stop {
+        Stop::At(stop)
+    }
 }
 
 // A job, and what it is done with: the station that the journals are played on, the counts, the memory of a line, in which each is

@@ -1,7 +1,7 @@
 // Records counted over given totals, where no journal is long enough to bring them: each of a farm's ten counts to 2^64 - 1, and to 2^64.
 #![tactic(auto)]
 
-use season::{COUNTS, EACH, Turn};
+use season::{COUNTS, EACH, Stop};
 use std::io;
 
 type Station = [u8; station::STATION];
@@ -62,11 +62,11 @@ fn others_full() -> Totals {
     totals
 }
 
-fn print_turn(rt: &impl Print, turn: Turn) -> io::Result<()> {
+fn print_turn(rt: &impl Print, turn: Result<(), Stop>) -> io::Result<()> {
     match turn {
-        Turn::Counted => rt.print(": counted:"),
-        Turn::Bad => rt.print(": bad:"),
-        Turn::Over => rt.print(": x 13:"),
+        Ok(()) => rt.print(": counted:"),
+        Err(Stop::Bad) => rt.print(": bad:"),
+        Err(Stop::Over) => rt.print(": x 13:"),
     }
 }
 
