@@ -1,5 +1,6 @@
 -- What is kept of a part that a request is worked on: all but the elements that it stores and the versions by these, their limits, and
 -- that it is well-formed.
+use Rattle.std.specs.Prelude.{Some}
 use mathlib.Core.Path.{◌≡◌, refl, sym, ap, ◌∙◌}
 use mathlib.Core.Bool.{Bool, true, false, cond, not, ◌&&◌, ◌||◌, true≢false, and-eq-true_iff}
 use mathlib.Core.List.{List, [], ◌∷◌, Memᴰ}
@@ -23,7 +24,6 @@ use Rattle.blocks.proofs.Page.{request_valid}
 use Rattle.blocks.specs.declared.reader.Address.{Address}
 use Rattle.drive.specs.Faults.{situations, buffer_codes, all_proper}
 use Rattle.catalogue.specs.declared.Row.{Row}
-use Rattle.catalogue.specs.declared.Found.TheVariants.{At}
 use Rattle.catalogue.specs.Table.{rows, parameter_bytes, find_of, offset_of, element_size}
 use Rattle.catalogue.specs.Element.{element_place, inside, element_of, put_element, fresh_of, every_element, every_row}
 use Rattle.catalogue.proofs.Elements.{element_length, element_stored, element_unstored}
@@ -118,7 +118,7 @@ abbrev Writes : (Row → ℕ → Type 0) → Row → ℕ → Type 0
 Writes May q j = (q.writable ≡ true) × May q j
 
 change_kept : (a : Address) (b : Block) → BlockFits change_block_fits b → (p : List ℕ) → Kept (Writes (StoredBy a (change_one a b p))) p (change_one a b p).part
-change_kept a b g p = change_cases a b p (λ c. Kept (Writes (StoredBy a c)) p c.part) (λ e small. kept_none p) stores
+change_kept a b g p = change_cases a b p (λ c. Kept (Writes (StoredBy a c)) p c.part) (λ e. kept_none p) stores
   where
     stores : (s : Storable a b) → Named a s.row s.number → let c = success s.row a.subindex b.values p in Kept (Writes (StoredBy a c)) p c.part
     stores s named =
@@ -157,7 +157,7 @@ all_beyond [] sent p = refl
 all_beyond (a ∷ more) [] p = refl
 all_beyond (a ∷ more) (b ∷ sent) p =
     all_beyond more sent (change_one a b p).part
-    ∙ change_cases a b p (λ c. drop parameter_bytes c.part ≡ drop parameter_bytes p) (λ e small. refl)
+    ∙ change_cases a b p (λ c. drop parameter_bytes c.part ≡ drop parameter_bytes p) (λ e. refl)
     (λ s named. store_beyond s.row named.row a.subindex b.values p (omega (arith, s.count, named.room)))
 
 pub versions_follow : VersionsFollow
@@ -224,7 +224,7 @@ module _ (May : Row → ℕ → Type 0) (writes : (q : Row) (j : ℕ) → May q 
       (λ t. elements_map _ _ q.count (λ j h e. ap (λ (x : ℕ). eqb x (fresh_of q j)) (unwritten q m (fixed_row q m t) j h) ∙ e))
 
   -- a parameter of words that cannot be written, as the fault buffer is
-  words_kept : (pnu : ℕ) (q : Row) → find_of pnu ≡ At q → element_size q.kind ≡ 2 → q.writable ≡ false → words_at q.count after (offset_of pnu) ≡ words_at q.count p (offset_of pnu)
+  words_kept : (pnu : ℕ) (q : Row) → find_of pnu ≡ Some q → element_size q.kind ≡ 2 → q.writable ≡ false → words_at q.count after (offset_of pnu) ≡ words_at q.count p (offset_of pnu)
   unfolding element_of offset_of
   words_kept pnu q e two shut =
       rw e (numbers_same 2 q.count after p q.offset (λ j h. rw two at (unwritten q (found_row pnu q e) shut j h)))
