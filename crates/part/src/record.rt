@@ -14,7 +14,7 @@ use drive::{Drive, Faults, Motion, N2, State};
 fn speed_at(part: &[u8], at: usize) -> N2
     ensures { result ≡ speed_at part.now at }
 {
-    N2(codes::signed16(codes::word_at(part, at)))
+    N2(codes::word_at(part, at).cast_signed())
 }
 
 // The codes of every fault situation.
@@ -22,8 +22,8 @@ fn codes_of(part: &[u8]) -> [u16; BUFFER]
     ensures { result ≡ words_at buffer_codes part.now (offset_of 947) }
 {
     let mut b = [0u16; BUFFER];
-    for i in 0..BUFFER {
-        b[i] = codes::word_at(part, catalogue::AT_947 as usize + i * 2);
+    for (i, x) in b.iter_mut().enumerate() {
+        *x = codes::word_at(part, catalogue::AT_947 as usize + i * 2);
     }
     b
 }
@@ -62,13 +62,13 @@ pub fn load_motion(part: &[u8]) -> Motion
 fn put_word(part: &mut [u8], at: usize, x: u16)
     ensures { part.new ≡ put_word at x part.old }
 {
-    codes::put_number(part, at, 2, x as u32);
+    codes::put_number(part, at, 2, u32::from(x));
 }
 
 fn put_speed(part: &mut [u8], at: usize, v: N2)
     ensures { part.new ≡ put_speed at v part.old }
 {
-    put_word(part, at, codes::bits16(v.0));
+    put_word(part, at, v.0.cast_unsigned());
 }
 
 // The codes of every situation; nothing where they do not all fit.

@@ -6,4 +6,4 @@ use mathlib.Core.Path.{◌≡◌}
 use Rattle.part.proofs.record.codes_of.Given as goal
 
 abbrev pub invariant-loop-i : goal.invariant-loop-i
-invariant-loop-i l = l.b ≡ read_so_far buffer_codes l.part (offset_of 947) l.i
+invariant-loop-i l = l.x-items ≡ read_so_far buffer_codes l.part (offset_of 947) l.i
