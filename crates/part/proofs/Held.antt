@@ -26,7 +26,7 @@ use Rattle.versions.proofs.Inner.{taken_alike}
 use Rattle.part.specs.Layout.{state_at, effective_at, length_at, response_at, versions_at, part_size, waiting_length, response_room, waiting, with_response, versions}
 use Rattle.part.specs.Record.{state_of, faults_of, drive_of}
 use Rattle.part.specs.WellFormed.{limits_fit, fixed_fit, waiting_fits, unused_fit}
-use Rattle.part.proofs.Waiting.{byte_written, filled_length}
+use Rattle.part.proofs.StoredResponse.{byte_written, filled_length}
 use Rattle.part.proofs.Kept.{row_passes, row_safe, tested_safe, element_same, limits_same, fixed_same}
 
 -- w bytes from k on stand before the response and its length

@@ -1,5 +1,5 @@
 // The drive record of an axis, in and out of its part.
-ghost use Rattle.std.specs.Prelude.{◌≡◌};
+ghost use Rattle.std.specs.Prelude.{◌≡◌, ◌+◌, ◌*◌, ◌^◌, ◌<◌};
 ghost use Rattle.codes.specs.Code.{word, write_all};
 ghost use Rattle.codes.specs.Number.{put};
 ghost use Rattle.drive.specs.Faults.{buffer_codes, is_empty_of};
@@ -51,27 +51,21 @@ fn speed_at(part: &[u8], at: usize) -> N2
     N2(codes::signed16(codes::word_at(part, at)))
 }
 
-// The codes of every fault situation.
-fn codes_of(part: &[u8]) -> [u16; drive::faults::BUFFER]
-    ensures { result ≡ words_at buffer_codes part.now (offset_of 947) }
+// N words, one after the other from `at` on.
+pub(crate) fn words_at<const N: usize>(part: &[u8], at: usize) -> [u16; N]
+    requires { at + N * 2 < 2 ^ 64 }
+    ensures { result ≡ words_at N part.now at }
 {
-    let mut b = [0u16; drive::faults::BUFFER];
-    let mut i: usize = 0;
-    while i < drive::faults::BUFFER {
-        b[i] = codes::word_at(part, catalogue::AT_947 as usize + i * 2);
-        i += 1;
-    }
-    b
+    std::array::from_fn(|i| codes::word_at(part, at + i * 2))
 }
 
 // The faults that a part holds.
 pub fn load_faults(part: &[u8]) -> Faults
     ensures { result ≡ faults_of part.now }
 {
-    let b = codes_of(part);
     Faults {
         counter: codes::word_at(part, catalogue::AT_944 as usize),
-        buffer: b,
+        buffer: words_at(part, catalogue::AT_947 as usize),
     }
 }
 
@@ -87,16 +81,13 @@ pub fn load_motion(part: &[u8]) -> Motion
     ensures { result ≡ motion_of (drive_of part.now) }
 {
     let s = state_of(codes::byte_at(part, super::STATE));
-    let setpoint = speed_at(part, catalogue::AT_10101 as usize);
-    let effective = speed_at(part, super::EFFECTIVE);
-    let actual = speed_at(part, catalogue::AT_10103 as usize);
     Motion {
         state: s,
         word: codes::word_at(part, catalogue::AT_10100 as usize),
-        setpoint: setpoint,
-        effective: effective,
+        setpoint: speed_at(part, catalogue::AT_10101 as usize),
+        effective: speed_at(part, super::EFFECTIVE),
         status: codes::word_at(part, catalogue::AT_10102 as usize),
-        actual: actual,
+        actual: speed_at(part, catalogue::AT_10103 as usize),
     }
 }
 
@@ -119,19 +110,16 @@ fn put_codes(part: &mut [u8], b: [u16; drive::faults::BUFFER])
     if part.len() < catalogue::AT_965 as usize {
         return;
     }
-    let mut i: usize = 0;
-    while i < drive::faults::BUFFER {
-        put_word(part, catalogue::AT_947 as usize + i * 2, b[i]);
-        i += 1;
+    for (i, code) in b.iter().enumerate() {
+        put_word(part, catalogue::AT_947 as usize + i * 2, *code);
     }
 }
 
 fn put_faults(part: &mut [u8], f: Faults)
     ensures { part.new ≡ put_faults f part.old }
 {
-    let b = f.buffer;
     put_word(part, catalogue::AT_944 as usize, f.counter);
-    put_codes(part, b);
+    put_codes(part, f.buffer);
 }
 
 // The part with another drive record, but for its faults.
@@ -139,22 +127,18 @@ pub fn store_motion(part: &mut [u8], m: Motion)
     ensures { part.new ≡ put_motion m part.old }
 {
     let s = m.state;
-    let setpoint = m.setpoint;
-    let effective = m.effective;
-    let actual = m.actual;
     codes::put_number(part, super::STATE, 1, number_of(s) as u32);
     put_word(part, catalogue::AT_10100 as usize, m.word);
-    put_speed(part, catalogue::AT_10101 as usize, setpoint);
-    put_speed(part, super::EFFECTIVE, effective);
+    put_speed(part, catalogue::AT_10101 as usize, m.setpoint);
+    put_speed(part, super::EFFECTIVE, m.effective);
     put_word(part, catalogue::AT_10102 as usize, m.status);
-    put_speed(part, catalogue::AT_10103 as usize, actual);
+    put_speed(part, catalogue::AT_10103 as usize, m.actual);
 }
 
 // The part with another drive record.
 pub fn store(part: &mut [u8], d: Drive)
     ensures { part.new ≡ put_drive d part.old }
 {
-    let f = d.faults;
     store_motion(part, drive::motion_of(d));
-    put_faults(part, f);
+    put_faults(part, d.faults);
 }

@@ -9,9 +9,9 @@ returns c =
     rw (
       c.word_at-2.ensures,
       c.word_at.ensures,
-      c.speed_at-actual.ensures,
-      c.speed_at-effective.ensures,
-      c.speed_at-setpoint.ensures,
+      c.speed_at-3.ensures,
+      c.speed_at-2.ensures,
+      c.speed_at.ensures,
       c.state_of-s.ensures,
       c.byte_at.ensures,
     )
