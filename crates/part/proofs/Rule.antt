@@ -1,5 +1,5 @@
 -- The rule for a well-formed part, taken apart and put together again.
-use mathlib.Core.Path.{◌≡◌}
+use mathlib.Core.Path.{◌≡◌, ◌∙◌, ap}
 use mathlib.Core.Bool.{Bool, true, false, ◌&&◌, and-eq-true_iff}
 use mathlib.Core.List.{List}
 use Prim.Native.Nat.{ℕ}
@@ -13,7 +13,20 @@ use Rattle.versions.specs.Fit.{versions_fit}
 use Rattle.part.specs.Layout.{state_at, part_size, versions}
 use Rattle.part.specs.Record.{faults_of}
 use Rattle.catalogue.specs.Element.{every_row}
-use Rattle.part.specs.WellFormed.{is_state, limits_fit, fixed_fit, waiting_fits, unused_fit, well_formed}
+use Rattle.part.specs.WellFormed.{limits_fit, fixed_fit, waiting_fits, unused_fit, well_formed}
+use Rattle.drive.specs.States.{is_state, state_found}
+use Rattle.drive.specs.declared.states.State.{State}
+use Rattle.drive.specs.declared.states.UnknownState.{UnknownState}
+use Rattle.std.proofs.Common.{Result, is_ok}
+use borrow.Table.Steps.{cases}
+
+looked_for : (n : ℕ) → is_ok (state_found n) ≡ is_state n
+unfolding state_found
+looked_for n = cases (is_state n) (λ e. rw e) (λ e. rw e)
+
+-- what is known of a number where a state was looked for
+pub state_is : {n m : ℕ} {r : Result State UnknownState} {b : Bool} → n ≡ m → r ≡ state_found n → b ≡ is_ok r → b ≡ is_state m
+state_is {n} same looked ok = ok ∙ (ap is_ok looked ∙ (looked_for n ∙ ap is_state same))
 
 abbrev all : Bool → Bool → Bool → Bool → Bool → Bool → Bool → Bool → Bool
 all size state limits fixed faults waits unused kept = size && state && limits && fixed && faults && waits && unused && kept

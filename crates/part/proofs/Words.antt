@@ -4,7 +4,8 @@ use mathlib.Core.Bool.{true, and-eq-true_iff}
 use mathlib.Core.List.{List, [], ◌∷◌, ◌++◌, map, append_assoc}
 use denote.Param.Members.{Mut}
 use native.Mathlib.Decide.{dec_le}
-use Rattle.std.specs.Array.{IsFromFnResultFrom}
+use Rattle.std.specs.Array.{IsFromFnResultFrom, IsFromFnResult}
+use Rattle.std.proofs.lemmas.List.FromFn.{fill_by_all}
 use Rattle.std.specs.Fn.{Called}
 use Rattle.std.specs.List.{range_with_len}
 use Prim.Native.Nat.{ℕ, zero, suc, ◌+◌, ◌*◌, ◌-◌, ◌≤◌, ◌<◌}
@@ -23,26 +24,36 @@ use Rattle.drive.specs.Faults.{zeros}
 use Rattle.part.specs.Record.{words_at}
 
 -- what `from_fn` makes by a closure that stays as it is
-module _ {F : Type 0} (g : Mut F (ℕ × Unit {0}) ℕ) (f : F) (h : ℕ → ℕ) (call : (i y : ℕ) (q : F) → Called g f (i, tt) y q → (q ≡ f) × (y ≡ h i)) (ys : List ℕ) where
-  pub made_each : (i n : ℕ) → IsFromFnResultFrom g f ys i n → (k : ℕ) → i ≤ k → k < i + n → get_or ys k 0 ≡ h k
-  made_each i zero m k a b = absurd (omega arith)
-  made_each i (suc n) m k a b =
+module _ {F : Type 0} {g : Mut F (ℕ × Unit {0}) ℕ} {f : F} (h : ℕ → ℕ) (call : (i y : ℕ) (q : F) → Called g f (i, tt) y q → (q ≡ f) × (y ≡ h i)) (ys : List ℕ) where
+  each_made : (i n : ℕ) → IsFromFnResultFrom g f ys i n → (k : ℕ) → i ≤ k → k < i + n → get_or ys k 0 ≡ h k
+  each_made i zero m k a b = absurd (omega arith)
+  each_made i (suc n) m k a b =
       let u = call i m.1 m.0 m.3 in
-      go (dec_le k i) u (made_each (i + 1) n (subst (λ (q : F). IsFromFnResultFrom g q ys (i + 1) n) u.0 m.4) k)
+      go (dec_le k i) u (each_made (i + 1) n (subst (λ (q : F). IsFromFnResultFrom g q ys (i + 1) n) u.0 m.4) k)
     where
       go : Dec (k ≤ i) → (m.0 ≡ f) × (m.1 ≡ h i) → (i + 1 ≤ k → k < i + 1 + n → get_or ys k 0 ≡ h k) → get_or ys k 0 ≡ h k
       go (yes y) u later = let e : k ≡ i = omega arith in rw e (m.2.1 0 ∙ u.1)
       go (no y) u later = later (omega arith) (omega arith)
 
--- made one by one
-words_from : (n : ℕ) (p : List ℕ) (at a : ℕ) → map (λ i. number_at 2 p (at + i * 2)) (range_with_len a n) ≡ words_at n p (at + a * 2)
-words_from zero p at a = refl
-words_from (suc n) p at a =
-    let e : at + (a + 1) * 2 ≡ at + a * 2 + 2 = omega arith in
-    ap (λ (l : List ℕ). number_at 2 p (at + a * 2) ∷ l) (words_from n p at (a + 1) ∙ ap (words_at n p) e)
+  made : (n : ℕ) → IsFromFnResult g f ys n → ys ≡ map h (range_with_len 0 n)
+  made n m = fill_by_all h ys n 0 m.long (λ k l. each_made 0 n m.each k (omega arith) (omega arith))
 
-pub words_made : (n : ℕ) (p : List ℕ) (at : ℕ) → map (λ i. number_at 2 p (at + i * 2)) (range_with_len 0 n) ≡ words_at n p at
-words_made n p at = let e : at + 0 * 2 ≡ at = omega arith in words_from n p at 0 ∙ ap (words_at n p) e
+-- the words, made so
+module _ (n : ℕ) (p : List ℕ) (at : ℕ) where
+  abbrev word_in : ℕ → ℕ
+  word_in i = number_at 2 p (at + i * 2)
+
+  from : (a k : ℕ) → map word_in (range_with_len a k) ≡ words_at k p (at + a * 2)
+  from a zero = refl
+  from a (suc k) =
+      let e : at + (a + 1) * 2 ≡ at + a * 2 + 2 = omega arith in
+      ap (λ (l : List ℕ). word_in a ∷ l) (from (a + 1) k ∙ ap (words_at k p) e)
+
+  pub words_made : {F : Type 0} {g : Mut F (ℕ × Unit {0}) ℕ} {f : F} (ys : List ℕ) → IsFromFnResult g f ys n
+      → ((i y : ℕ) (q : F) → Called g f (i, tt) y q → (q ≡ f) × (y ≡ number_at 2 p (at + i * 2))) → ys ≡ words_at n p at
+  words_made ys m call =
+      let e : at + 0 * 2 ≡ at = omega arith in
+      made word_in call ys n m ∙ (from 0 n ∙ ap (words_at n p) e)
 
 -- some words of a run are a run of their own
 pub take_words : (k n : ℕ) (p : List ℕ) (at : ℕ) → k ≤ n → take k (words_at n p at) ≡ words_at k p at

@@ -30,7 +30,7 @@ pub fn fresh(part: &mut [u8])
         return;
     }
     part.fill(0);
-    codes::put_number(part, super::STATE, 1, super::number_of(State::S1) as u32);
+    codes::put_number(part, super::STATE, 1, u32::from(u8::from(State::S1)));
     fresh_rows(part);
     versions::fill_within(part, super::VERSIONS);
 }

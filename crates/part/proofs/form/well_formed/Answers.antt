@@ -1,5 +1,5 @@
 -- The same tests in the same order; the first that fails decides.
-use Rattle.part.proofs.Rule.{wrong_size, others, right_size}
+use Rattle.part.proofs.Rule.{state_is, wrong_size, others, right_size}
 use Rattle.part.specs.Layout.{versions_at, versions}
 use Rattle.catalogue.specs.Table.{rows, parameter_bytes}
 use Rattle.versions.specs.Layout.{last_at}
@@ -30,12 +30,14 @@ unfolding parameter_bytes rows last_at
 returns-then-unused_fits c =
     let p = c.args.part.now in
     let kept : c.fit.result ≡ versions_fit (versions p) = c.fit.ensures ∙ ap versions_fit (take_rest p versions_at) in
-    let chain : c.fit.result ≡ others c.args.axis p = search (rules, tests, kept) in
+    let state = state_is c.byte_at.ensures c.try_from.ensures c.is_ok.ensures.value in
+    let chain : c.fit.result ≡ others c.args.axis p = search (rules, tests, state, kept) in
     chain ∙ right_size c.args.axis p c.if-part-ne-SIZE.false
 
 pub returns-else-unused_fits : goal.returns-else-unused_fits
 unfolding parameter_bytes rows last_at
 returns-else-unused_fits c =
     let p = c.args.part.now in
-    let chain : c.if-waiting_fits.value ≡ others c.args.axis p = search (rules, tests) in
+    let state = state_is c.byte_at.ensures c.try_from.ensures c.is_ok.ensures.value in
+    let chain : c.if-waiting_fits.value ≡ others c.args.axis p = search (rules, tests, state) in
     chain ∙ right_size c.args.axis p c.if-part-ne-SIZE.false

@@ -15,7 +15,7 @@ returns-then-part-ne-SIZE c = left_alone c.args.part.now c.if-part-ne-SIZE.true
 pub returns : goal.returns
 unfolding parameter_bytes rows last_at
 returns c =
-    let n = c.number_of in
+    let n = c.from-2 in
     c.fill_within.ensures
     ∙ (ap (filled_within versions_at) (c.fresh_rows.ensures ∙ ap (fresh_rows rows) c.put_number.ensures)
-    ∙ made_fresh c.args.part.now n.result c.if-part-ne-SIZE.false n.ensures c.fill.new.self (c.fill.ensures.after (λ y z. z)))
+    ∙ made_fresh c.args.part.now n.result c.if-part-ne-SIZE.false (n.ensures ∙ c.from.ensures) c.fill.new.self (c.fill.ensures.after (λ y z. z)))
