@@ -1,5 +1,5 @@
 // The drive record of an axis, in and out of its part.
-ghost use Rattle.std.specs.Prelude.{◌≡◌};
+ghost use Rattle.std.specs.Prelude.{◌≡◌, ◌+◌, ◌*◌, ◌^◌, ◌<◌};
 ghost use Rattle.codes.specs.Code.{word, write_all};
 ghost use Rattle.codes.specs.Number.{put};
 ghost use Rattle.drive.specs.Faults.{buffer_codes, is_empty_of};
@@ -17,15 +17,12 @@ fn speed_at(part: &[u8], at: usize) -> N2
     N2(codes::word_at(part, at).cast_signed())
 }
 
-// The codes of every fault situation.
-fn codes_of(part: &[u8]) -> [u16; BUFFER]
-    ensures { result ≡ words_at buffer_codes part.now (offset_of 947) }
+// N words, one after the other from `at` on.
+pub(crate) fn words_at<const N: usize>(part: &[u8], at: usize) -> [u16; N]
+    requires { at + N * 2 < 2 ^ 64 }
+    ensures { result ≡ words_at N part.now at }
 {
-    let mut b = [0u16; BUFFER];
-    for (i, x) in b.iter_mut().enumerate() {
-        *x = codes::word_at(part, catalogue::AT_947 as usize + i * 2);
-    }
-    b
+    std::array::from_fn(|i| codes::word_at(part, at + i * 2))
 }
 
 // The faults that a part holds.
@@ -34,7 +31,7 @@ pub fn load_faults(part: &[u8]) -> Faults
 {
     Faults {
         counter: codes::word_at(part, catalogue::AT_944 as usize),
-        buffer: codes_of(part),
+        buffer: words_at(part, catalogue::AT_947 as usize),
     }
 }
 
@@ -78,8 +75,8 @@ fn put_codes(part: &mut [u8], b: [u16; BUFFER])
     if part.len() < catalogue::AT_965 as usize {
         return;
     }
-    for (i, x) in b.iter().enumerate() {
-        put_word(part, catalogue::AT_947 as usize + i * 2, *x);
+    for (i, code) in b.iter().enumerate() {
+        put_word(part, catalogue::AT_947 as usize + i * 2, *code);
     }
 }
 
