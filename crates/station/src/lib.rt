@@ -57,6 +57,16 @@ pub struct CycleDone {
     pub entered: bool,
 }
 
+// What a cycle of an axis is sent: the flags, the control word, setpoint and actual speed, and a fault code.
+#[derive(Clone, Copy)]
+pub struct Sent {
+    pub flags: u32,
+    pub stw1: u16,
+    pub nsoll: i16,
+    pub nist: i16,
+    pub fault: u16,
+}
+
 // Farms, and axes.
 pub const FARMS: usize = 16;
 
@@ -104,17 +114,9 @@ pub fn fresh(station: &mut [u8]) -> u8
 }
 
 // A control cycle of an axis.
-pub fn cycle(
-    station: &mut [u8],
-    axis: u32,
-    flags: u32,
-    stw1: u16,
-    nsoll: i16,
-    nist: i16,
-    fault: u16,
-) -> CycleDone
-    ensures result_value { to_cycle result ≡ answer kinds (cycle axis (record { flags = flags; stw1 = stw1; nsoll = nsoll; nist = nist; fault = fault })) station.old }
-    ensures station_after { station.new ≡ after kinds (cycle axis (record { flags = flags; stw1 = stw1; nsoll = nsoll; nist = nist; fault = fault })) station.old }
+pub fn cycle(station: &mut [u8], axis: u32, sent: Sent) -> CycleDone
+    ensures result_value { to_cycle result ≡ answer kinds (cycle axis sent) station.old }
+    ensures station_after { station.new ≡ after kinds (cycle axis sent) station.old }
 {
     let n = refused(axis, station.len());
     if n != 0 {
@@ -122,15 +124,7 @@ pub fn cycle(
     }
     let a = (axis as usize - 1) * part::SIZE;
     let e = a + part::SIZE;
-    part_cycle::cycle_on(
-        &mut station[a..e],
-        axis as u8,
-        flags,
-        stw1,
-        nsoll,
-        nist,
-        fault,
-    )
+    part_cycle::cycle_on(&mut station[a..e], axis as u8, sent)
 }
 
 // A frame of a farm, answered in the reply memory.

@@ -4,7 +4,7 @@ ghost use Rattle.drive.specs.Motion.{moved_of};
 ghost use Rattle.part.specs.Record.{put_motion};
 ghost use Rattle.station.specs.Cycle.{input_of, refused_cycle, cycled, cycle_answer, cycle_part};
 
-use super::{CycleDone, Cycled};
+use super::{CycleDone, Cycled, Sent};
 use drive::{Input, Motion, N2, Output};
 
 // A refused cycle answers its number and zeros, and did nothing.
@@ -25,16 +25,16 @@ pub(crate) fn refused_cycle(n: u8) -> CycleDone
 }
 
 // What a cycle is given, with the axis's parameters.
-fn input_of(part: &[u8], flags: u32, stw1: u16, nsoll: i16, nist: i16, fault: u16) -> Input
-    ensures { result ≡ input_of (record { flags = flags; stw1 = stw1; nsoll = nsoll; nist = nist; fault = fault }) part.now }
+fn input_of(part: &[u8], sent: Sent) -> Input
+    ensures { result ≡ input_of sent part.now }
 {
     Input {
-        standstill: flags / 1 % 2 == 1,
-        warning: flags / 2 % 2 == 1,
-        stw1: stw1,
-        nsoll: N2(nsoll),
-        nist: N2(nist),
-        fault: fault,
+        standstill: sent.flags % 2 == 1,
+        warning: sent.flags / 2 % 2 == 1,
+        stw1: sent.stw1,
+        nsoll: N2(sent.nsoll),
+        nist: N2(sent.nist),
+        fault: sent.fault,
         reference: codes::word_at(part, catalogue::AT_10111 as usize),
         window: codes::word_at(part, catalogue::AT_30002 as usize),
         threshold: codes::word_at(part, catalogue::AT_30003 as usize),
@@ -72,25 +72,17 @@ fn quiet_cycle(part: &mut [u8], m: Motion, faulted: bool, i: Input) -> CycleDone
 }
 
 // A cycle of the axis k.
-pub(crate) fn cycle_on(
-    part: &mut [u8],
-    k: u8,
-    flags: u32,
-    stw1: u16,
-    nsoll: i16,
-    nist: i16,
-    fault: u16,
-) -> CycleDone
-    ensures value { result ≡ cycle_answer k (record { flags = flags; stw1 = stw1; nsoll = nsoll; nist = nist; fault = fault }) part.old }
-    ensures part_after { part.new ≡ cycle_part k (record { flags = flags; stw1 = stw1; nsoll = nsoll; nist = nist; fault = fault }) part.old }
+pub(crate) fn cycle_on(part: &mut [u8], k: u8, sent: Sent) -> CycleDone
+    ensures value { result ≡ cycle_answer k sent part.old }
+    ensures part_after { part.new ≡ cycle_part k sent part.old }
 {
     if !part::well_formed(part, k) {
         return refused_cycle(2);
     }
-    if 3 < flags {
+    if 3 < sent.flags {
         return refused_cycle(12);
     }
-    let i = input_of(part, flags, stw1, nsoll, nist, fault);
+    let i = input_of(part, sent);
     let m = part::load_motion(part);
     let empty = part::has_no_fault(part);
     if drive::is_quiet(m.word, empty, i) { // as nearly every cycle is

@@ -6,15 +6,13 @@ use Rattle.catalogue.specs.Table.{rows, parameter_bytes}
 use Rattle.versions.specs.Layout.{last_at}
 use Rattle.station.specs.Calls.{kinds, cycle, to_cycle}
 use Rattle.station.proofs.Answers.{takes, refuses, does, lent}
-use mir.Syntax.{w16}
-use mir.ValLaws.{to_z-of_z}
 use borrow.Author.Rules.{rules}
 use Rattle.station.proofs.cycle.Goals as goal
 
 pub returns-then-n-ne0 : goal.returns-then-n-ne0
 returns-then-n-ne0 c =
     let a = c.args in
-    let e = refuses kinds (cycle a.axis (record { flags = a.flags; stw1 = a.stw1; nsoll = a.nsoll; nist = a.nist; fault = a.fault })) a.station.now c.refused-n.result c.refused-n.ensures c.if-n-ne0.true in
+    let e = refuses kinds (cycle a.axis a.sent) a.station.now c.refused-n.result c.refused-n.ensures c.if-n-ne0.true in
     record { result_value = ap to_cycle c.refused_cycle.ensures ∙ e.0; station_after = e.1 }
 
 pub overflow_sub-a : goal.overflow_sub-a
@@ -41,5 +39,5 @@ unfolding parameter_bytes rows last_at
 returns c =
     let a = c.args in
     let s = a.station.now in
-    let e = rw (to_z-of_z w16 a.nsoll c.ranges.nsoll, to_z-of_z w16 a.nist c.ranges.nist, lent a.axis s) at c.cycle_on.ensures in
-    let both = does kinds (cycle a.axis (record { flags = a.flags; stw1 = a.stw1; nsoll = a.nsoll; nist = a.nist; fault = a.fault })) s (to_cycle c.cycle_on.result) c.cycle_on.new.part (sym c.if-n-ne0.false ∙ c.refused-n.ensures) (ap to_cycle e.value) e.part_after in record { result_value = both.0; station_after = both.1 }
+    let e = rw (lent a.axis s) at c.cycle_on.ensures in
+    let both = does kinds (cycle a.axis a.sent) s (to_cycle c.cycle_on.result) c.cycle_on.new.part (sym c.if-n-ne0.false ∙ c.refused-n.ensures) (ap to_cycle e.value) e.part_after in record { result_value = both.0; station_after = both.1 }
