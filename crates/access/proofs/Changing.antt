@@ -1,4 +1,6 @@
 -- The loop over the addresses and blocks of a change: what is left to do from where it stands is what was to be done at first.
+use Rattle.std.proofs.lemmas.Option.{same_Some}
+use Rattle.std.specs.Prelude.{Option, Some, None}
 use mathlib.Core.Path.{◌≡◌, refl, sym, ◌∙◌, ap}
 use mathlib.Core.Bool.{Bool, true, false, cond, ◌||◌}
 use mathlib.Core.List.{List, [], ◌∷◌}
@@ -16,10 +18,7 @@ use Rattle.blocks.specs.Page.{block_bytes}
 use Rattle.blocks.specs.Place.{addresses_end, step_of, step_at, block_at, walk}
 use Rattle.blocks.specs.Request.{address}
 use Rattle.blocks.specs.declared.Head.{Head}
-use Rattle.blocks.specs.declared.BlockAt.{BlockAt}
-use Rattle.blocks.specs.declared.BlockAt.TheVariants.{Stands, Nothing}
 use Rattle.blocks.specs.declared.reader.Address.{Address}
-use Rattle.blocks.specs.declared.reader.Step.TheVariants.{Next, End}
 use Rattle.blocks.proofs.Blocks.{block_stands, block_falls}
 use Rattle.access.specs.declared.reply.Written.{Written}
 use Rattle.access.specs.declared.change.Done.{Done}
@@ -32,21 +31,21 @@ use Rattle.access.proofs.Answering.{answer_short, answers_short}
 use Rattle.access.proofs.Failing.{block_in_lem}
 
 -- blocks are left, so one stands here
-blocks_end : (s : List ℕ) (from left : ℕ) → 0 < left → length (blocks_in left s from) ≡ left → block_at s from ≡ Nothing → ⊥
+blocks_end : (s : List ℕ) (from left : ℕ) → 0 < left → length (blocks_in left s from) ≡ left → block_at s from ≡ None → ⊥
 blocks_end s from zero h w e = omega arith
 blocks_end s from (suc left) h w e =
     let z : length (blocks_in (suc left) s from) ≡ 0 = rw (block_falls change_block_fits s from e) in
     omega arith
 
-pub block_left : (s : List ℕ) (from left : ℕ) → 0 < left → length (blocks_in left s from) ≡ left → (h : Head) × (block_at s from ≡ Stands h)
+pub block_left : (s : List ℕ) (from left : ℕ) → 0 < left → length (blocks_in left s from) ≡ left → (h : Head) × (block_at s from ≡ Some h)
 block_left s from left h w = go (block_at s from) refl
   where
-    go : (b : BlockAt) → block_at s from ≡ b → (k : Head) × (block_at s from ≡ Stands k)
-    go (Stands k) e = (k, e)
-    go Nothing e = absurd (blocks_end s from left h w e)
+    go : (b : Option Head) → block_at s from ≡ b → (k : Head) × (block_at s from ≡ Some k)
+    go (Some k) e = (k, e)
+    go None e = absurd (blocks_end s from left h w e)
 
 -- a step over the blocks that are left
-blocks_next : (s : List ℕ) (from left : ℕ) (h : Head) → block_at s from ≡ Stands h → length (blocks_in (suc left) s from) ≡ suc left → blocks_in (suc left) s from ≡ block_in s from ∷ blocks_in left s h.next
+blocks_next : (s : List ℕ) (from left : ℕ) (h : Head) → block_at s from ≡ Some h → length (blocks_in (suc left) s from) ≡ suc left → blocks_in (suc left) s from ≡ block_in s from ∷ blocks_in left s h.next
 blocks_next s from left h st w =
     let stood = block_stands change_block_fits s from h st in
     let first : blocks_in (suc left) s from ≡ value_or [] (and_then (read_times (block change_block_fits).read left (drop h.next s)) (λ bs u. got (stood.it ∷ bs) u)) = rw stood.read in
@@ -59,12 +58,12 @@ blocks_next s from left h st w =
     go b bad e = absurd (omega arith)
 
 -- an address takes six bytes
-pub step_six : (s : List ℕ) (at : ℕ) (a : Address) (next : ℕ) → step_at s at ≡ Next a next → next ≡ at + 6
+pub step_six : (s : List ℕ) (at : ℕ) (a : Address) (next : ℕ) → step_at s at ≡ Some (a, next) → next ≡ at + 6
 unfolding step_at
 step_six s at a next e = go (leb (at + 6) (addresses_end s)) (address.read (drop at s)) e
   where
-    go : (b : Bool) (g : Got Address) → cond b (step_of (at + 6) g) End ≡ Next a next → next ≡ at + 6
-    go true (got x t) q = cc
+    go : (b : Bool) (g : Got Address) → cond b (step_of (at + 6) g) None ≡ Some (a, next) → next ≡ at + 6
+    go true (got x t) q = sym (ap (λ (p : Address × ℕ). p.1) (same_Some (x, at + 6) (a, next) q))
     go true bad q = absurd (let z : ◌≡◌ {A = ℕ} 0 1 = cc in omega arith)
     go false g q = absurd (let z : ◌≡◌ {A = ℕ} 0 1 = cc in omega arith)
 
@@ -97,7 +96,7 @@ module _ (s : List ℕ) (n : ℕ) (p₀ out₀ p out : List ℕ) (at from : ℕ)
     abbrev after : Changes
     after = record { next = w.next; error = error; stored = so.stored + d.stored }
 
-    next_turn : step_at s at ≡ Next a next → block_at s from ≡ Stands h → Did (change_one a (block_in s from) p) q d → length q ≡ length p → Wrote out m so.next (answer_in d) w → error ≡ (so.error || w.error) → Changing s n p₀ out₀ p out at from (suc left) so → Changing s n p₀ out₀ q m next h.next left after
+    next_turn : step_at s at ≡ Some (a, next) → block_at s from ≡ Some h → Did (change_one a (block_in s from) p) q d → length q ≡ length p → Wrote out m so.next (answer_in d) w → error ≡ (so.error || w.error) → Changing s n p₀ out₀ p out at from (suc left) so → Changing s n p₀ out₀ q m next h.next left after
     next_turn e st did kept o ee c =
         let k = walk_next s at left a next e in
         let l = blocks_next s from left h st c.valued in
@@ -120,7 +119,7 @@ module _ (s : List ℕ) (n : ℕ) (p₀ out₀ p out : List ℕ) (at from : ℕ)
           counts = omega (arith, did.stored, ap (λ (y : ChangedAll). y.stored) turned, c.counts);
         }
 
-  pub turn : (left : ℕ) (a : Address) (next : ℕ) (h : Head) (q m : List ℕ) (d : Done) (w : Written) (error : Bool) → 0 < left → step_at s at ≡ Next a next → block_at s from ≡ Stands h → Did (change_one a (block_in s from) p) q d → length q ≡ length p → Wrote out m so.next (answer_in d) w → error ≡ (so.error || w.error) → Changing s n p₀ out₀ p out at from left so → Changing s n p₀ out₀ q m next h.next (left - 1) (record { next = w.next; error = error; stored = so.stored + d.stored })
+  pub turn : (left : ℕ) (a : Address) (next : ℕ) (h : Head) (q m : List ℕ) (d : Done) (w : Written) (error : Bool) → 0 < left → step_at s at ≡ Some (a, next) → block_at s from ≡ Some h → Did (change_one a (block_in s from) p) q d → length q ≡ length p → Wrote out m so.next (answer_in d) w → error ≡ (so.error || w.error) → Changing s n p₀ out₀ p out at from left so → Changing s n p₀ out₀ q m next h.next (left - 1) (record { next = w.next; error = error; stored = so.stored + d.stored })
   turn zero a next h q m d w error z e st did kept o ee c = absurd (omega arith)
   turn (suc left) a next h q m d w error z e st did kept o ee c = rw sub-one (next_turn left a next h q m d w error e st did kept o ee c)
 

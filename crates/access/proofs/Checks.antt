@@ -1,4 +1,5 @@
 -- The elements that an address names stand inside their row, and no row has more of them than the fault buffer.
+use Rattle.std.specs.Prelude.{Option, Some, None}
 use mathlib.Core.Path.{◌≡◌, refl, ap, subst, sym, ◌∙◌}
 use mathlib.Core.Bool.{Bool, true, false, cond, not, ◌&&◌, ◌||◌}
 use mathlib.Core.List.{List, [], ◌∷◌, Memᴰ}
@@ -12,8 +13,6 @@ use Rattle.drive.specs.Faults.{buffer_codes}
 use Rattle.blocks.specs.declared.reader.Address.{Address}
 use Rattle.checker.specs.Check.{elements_asked}
 use Rattle.catalogue.specs.declared.Row.{Row}
-use Rattle.catalogue.specs.declared.Found.{Found}
-use Rattle.catalogue.specs.declared.Found.TheVariants.{At, Nothing}
 use Rattle.catalogue.specs.Table.{rows, find_in, find_of}
 use Rattle.catalogue.proofs.Rows.{found_row, row_some}
 use Rattle.access.specs.declared.Checked.{Checked}
@@ -34,21 +33,21 @@ rows_small : small rows ≡ true
 unfolding rows
 rows_small = refl
 
-find_small : (rs : List Row) (pnu : ℕ) (r : Row) → small rs ≡ true → find_in rs pnu ≡ At r → r.count ≤ buffer_codes
+find_small : (rs : List Row) (pnu : ℕ) (r : Row) → small rs ≡ true → find_in rs pnu ≡ Some r → r.count ≤ buffer_codes
 find_small [] pnu r s e = absurd (let z : ◌≡◌ {A = ℕ} 0 1 = cc in omega arith)
 find_small (q ∷ rs) pnu r s e = go (eqb q.pnu pnu) (find_small rs pnu r) e
   where
-    go : (b : Bool) → (small rs ≡ true → find_in rs pnu ≡ At r → r.count ≤ buffer_codes) → cond b (At q) (find_in rs pnu) ≡ At r → r.count ≤ buffer_codes
+    go : (b : Bool) → (small rs ≡ true → find_in rs pnu ≡ Some r → r.count ≤ buffer_codes) → cond b (Some q) (find_in rs pnu) ≡ Some r → r.count ≤ buffer_codes
     go true more h = let z : q ≡ r = cc in omega (arith, leb-true q.count buffer_codes (both (leb q.count buffer_codes) (small rs) s).0, ap (λ (x : Row). x.count) z)
     go false more h = more (both (leb q.count buffer_codes) (small rs) s).1 h
 
-pub found_small : (pnu : ℕ) (r : Row) → find_of pnu ≡ At r → r.count ≤ buffer_codes
+pub found_small : (pnu : ℕ) (r : Row) → find_of pnu ≡ Some r → r.count ≤ buffer_codes
 unfolding find_of
 found_small pnu r e = find_small rows pnu r rows_small e
 
 -- what the tests of an address leave: elements of a row of the table, or an error word
 pub record Named (a : Address) (r : Row) (n : ℕ) : Type 0 where
-  pub found : find_of a.pnu ≡ At r
+  pub found : find_of a.pnu ≡ Some r
   pub row : Memᴰ r rows
   pub some : 1 ≤ n
   pub room : a.subindex + n ≤ r.count
@@ -63,7 +62,7 @@ one_asked : (n : ℕ) → n ≤ 1 → 1 ≡ elements_asked n
 one_asked n few = pick (λ x. 1 ≡ x) (eqb n 0) (λ t. refl) (λ t. let some = eqb-false n 0 t in omega arith)
 
 module _ (a : Address) where
-  module _ (r : Row) (e : find_of a.pnu ≡ At r) where
+  module _ (r : Row) (e : find_of a.pnu ≡ Some r) where
     named : (n : ℕ) → 1 ≤ n → a.subindex + n ≤ r.count → n ≡ elements_asked a.elements → CheckedFits a (Elements r n)
     named n some room asked =
         record { found = e; row = found_row a.pnu r e; some = some; room = room; short = found_small a.pnu r e; asked = asked }
@@ -75,7 +74,7 @@ module _ (a : Address) where
         named 1 (lit≤ tt) (omega (arith, eqb-true a.subindex 0 first, row_some r (found_row a.pnu r e)))
         (one_asked a.elements (ltb-false 1 a.elements tests.1))
 
-    row_fits : CheckedFits a (checked_in a (At r))
+    row_fits : CheckedFits a (checked_in a (Some r))
     row_fits =
         pick (CheckedFits a) (eqb a.attribute 0x20) (λ t. lit< tt) (λ t.
         pick (CheckedFits a) (eqb a.attribute 0x30) (λ u. lit< tt) (λ u.
@@ -91,9 +90,9 @@ module _ (a : Address) where
   unfolding checked
   checked_fits = go (find_of a.pnu) refl
     where
-      go : (found : Found) → find_of a.pnu ≡ found → CheckedFits a (checked_in a found)
-      go Nothing e = lit< tt
-      go (At r) e = row_fits r e
+      go : (found : Option Row) → find_of a.pnu ≡ found → CheckedFits a (checked_in a found)
+      go None e = lit< tt
+      go (Some r) e = row_fits r e
 
   pub checked_named : (r : Row) (n : ℕ) → checked a ≡ Elements r n → Named a r n
   checked_named r n e = subst (CheckedFits a) e checked_fits
@@ -102,11 +101,11 @@ module _ (a : Address) where
   checked_inside r n e = let it = checked_named r n e in omega (arith, it.room, it.short)
 
 -- what the catalogue found decides, for a read and for a change
-module _ (a : Address) (f : Found) (e : f ≡ find_of a.pnu) where
-  pub check_nothing : f ≡ Nothing → Error 0x00 ≡ checked a
+module _ (a : Address) (f : Option Row) (e : f ≡ find_of a.pnu) where
+  pub check_nothing : f ≡ None → Error 0x00 ≡ checked a
   unfolding checked
   check_nothing n = ap (checked_in a) (sym n ∙ e)
 
-  pub check_row : (r : Row) (q : Checked) → f ≡ At r → q ≡ checked_in a (At r) → q ≡ checked a
+  pub check_row : (r : Row) (q : Checked) → f ≡ Some r → q ≡ checked_in a (Some r) → q ≡ checked a
   unfolding checked
   check_row r q n w = w ∙ ap (checked_in a) (sym n ∙ e)

@@ -1,4 +1,5 @@
 -- One address of a change: its tests in their order, by what the code knows of the block that stands at its place.
+use Rattle.std.specs.Prelude.{Some}
 use mathlib.Core.Path.{◌≡◌, refl, sym, ◌∙◌, ap, subst}
 use mathlib.Core.Bool.{Bool, true, false, cond, not, ◌||◌}
 use mathlib.Core.List.{List}
@@ -11,7 +12,6 @@ use Rattle.codes.specs.Number.{value_or}
 use Rattle.blocks.specs.Block.{Block, change_block_fits}
 use Rattle.blocks.specs.Place.{block_at}
 use Rattle.blocks.specs.declared.Head.{Head}
-use Rattle.blocks.specs.declared.BlockAt.TheVariants.{Stands}
 use Rattle.blocks.specs.declared.reader.Address.{Address}
 use Rattle.blocks.proofs.Blocks.{block_stands}
 use Rattle.catalogue.specs.declared.Row.{Row}
@@ -27,7 +27,7 @@ pub did_fail : (e : ℕ) (p : List ℕ) (d : Done) → d ≡ record { failed = t
 did_fail e p d q = rw q (record { block = refl; part = refl; stored = refl; few = omega arith })
 
 -- the head that the code has is that of the block
-module _ (s : List ℕ) (at : ℕ) (h : Head) (st : block_at s at ≡ Stands h) where
+module _ (s : List ℕ) (at : ℕ) (h : Head) (st : block_at s at ≡ Some h) where
   pub block_in_lem : block_in s at ≡ (block_stands change_block_fits s at h st).it
   block_in_lem = ap (value_or empty_block) (block_stands change_block_fits s at h st).read
 

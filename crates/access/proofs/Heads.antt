@@ -1,4 +1,5 @@
 -- The block of a change that stands at a place: its first two bytes, and where it ends.
+use Rattle.std.specs.Prelude.{Some}
 use mathlib.Core.Path.{◌≡◌, sym, ◌∙◌, ap, ap₂}
 use mathlib.Core.List.{List}
 use Prim.Native.Nat.{ℕ, ◌+◌, ◌*◌, ◌%◌, ◌≤◌}
@@ -8,14 +9,13 @@ use Rattle.codes.proofs.Fixed.{Bytes, small}
 use Rattle.blocks.specs.Block.{format_size, value_size, values_size, change_block_fits}
 use Rattle.blocks.specs.Place.{block_at}
 use Rattle.blocks.specs.declared.Head.{Head}
-use Rattle.blocks.specs.declared.BlockAt.TheVariants.{Stands}
 use Rattle.blocks.proofs.Sound.{block_sound}
 use Rattle.blocks.proofs.Page.{block_valid}
 use Rattle.blocks.proofs.Formats.{fits_format}
 use Rattle.blocks.proofs.Request.{block_room, format_byte, count_byte, after_block}
 use Rattle.blocks.proofs.Blocks.{Stood, block_stands, size_small, fill_even, values_size_lem}
 
-module _ (s : List ℕ) (at : ℕ) (h : Head) (e : block_at s at ≡ Stands h) where
+module _ (s : List ℕ) (at : ℕ) (h : Head) (e : block_at s at ≡ Some h) where
   stood : Stood change_block_fits s at h
   stood = block_stands change_block_fits s at h e
 
@@ -51,12 +51,12 @@ module _ (s : List ℕ) (at : ℕ) (h : Head) (e : block_at s at ≡ Stands h) w
         let same : n * value_size f ≡ bare = ap₂ (λ (k w : ℕ). k * w) count_is size_is ∙ sym all in
         omega (arith, head_ends, values_size_lem f n, same, fill_even f n)
 
-    pub head_is : block_at s at ≡ Stands (record { format = get_or s at 0; count = get_or s (at + 1) 0; size = size; next = at + 2 + bare + bare % 2 })
+    pub head_is : block_at s at ≡ Some (record { format = get_or s at 0; count = get_or s (at + 1) 0; size = size; next = at + 2 + bare + bare % 2 })
     head_is =
         e
-        ∙ (ap (λ (f : ℕ). Stands (record { format = f; count = h.count; size = h.size; next = h.next })) (stood.format ∙ format_is)
-        ∙ (ap (λ (n : ℕ). Stands (record { format = get_or s at 0; count = n; size = h.size; next = h.next })) (stood.count ∙ count_is)
-        ∙ ap₂ (λ (w k : ℕ). Stands (record { format = get_or s at 0; count = get_or s (at + 1) 0; size = w; next = k })) (stood.size ∙ size_is) next_is))
+        ∙ (ap (λ (f : ℕ). Some (record { format = f; count = h.count; size = h.size; next = h.next })) (stood.format ∙ format_is)
+        ∙ (ap (λ (n : ℕ). Some (record { format = get_or s at 0; count = n; size = h.size; next = h.next })) (stood.count ∙ count_is)
+        ∙ ap₂ (λ (w k : ℕ). Some (record { format = get_or s at 0; count = get_or s (at + 1) 0; size = w; next = k })) (stood.size ∙ size_is) next_is))
 
     pub bare_small : bare ≤ 1020
     bare_small = rw all (small (get_or s (at + 1) 0) size (omega (arith, y (at + 1))) (rw (← size_is) (size_small stood.it.format)))

@@ -1,5 +1,6 @@
 -- Each law of specs/Laws.antt that no other proof uses whole, at work on requests that are written out: one that is made weaker fails here.
 -- What a law concludes is written out too, and nothing of that is unfolded.
+use Rattle.std.specs.Prelude.{Option, Some, None}
 use mathlib.Core.Path.{◌≡◌, refl, sym, ap, ◌∙◌}
 use mathlib.Core.Bool.{Bool, true, false, true≢false}
 use mathlib.Core.List.{List, [], ◌∷◌, Memᴰ}
@@ -15,8 +16,6 @@ use Rattle.blocks.specs.Response.{is_error, has_error}
 use Rattle.blocks.specs.Page.{AddressFits, BlockFits, RequestFits}
 use Rattle.blocks.specs.declared.reader.Address.{Address}
 use Rattle.catalogue.specs.declared.Row.{Row}
-use Rattle.catalogue.specs.declared.Found.{Found}
-use Rattle.catalogue.specs.declared.Found.TheVariants.{At, Nothing}
 use Rattle.catalogue.specs.Table.{rows, parameter_bytes, find_of}
 use Rattle.catalogue.specs.Element.{inside, element_of}
 use Rattle.versions.specs.Keep.{taken}
@@ -257,11 +256,11 @@ how_many : Checked → ℕ
 how_many (Elements r n) = n
 how_many (Error e) = 0
 
-not_user : (q : Row) (j : ℕ) → (find_of 9900 ≡ At q → j < 1 → ⊥) → Names user q j → ⊥
+not_user : (q : Row) (j : ℕ) → (find_of 9900 ≡ Some q → j < 1 → ⊥) → Names user q j → ⊥
 unfolding user checked find_of rows how_many
 not_user q j d n = let one : 1 ≡ n.number = ap how_many n.passed in d n.found (omega (arith, one, n.high))
 
-others_kept : (p : List ℕ) (q : Row) → Memᴰ q rows → (j : ℕ) → j < q.count → (find_of 9900 ≡ At q → j < 1 → ⊥) → element_of q j (worked set_one p).part ≡ element_of q j p
+others_kept : (p : List ℕ) (q : Row) → Memᴰ q rows → (j : ℕ) → j < q.count → (find_of 9900 ≡ Some q → j < 1 → ⊥) → element_of q j (worked set_one p).part ≡ element_of q j p
 unfolding set_one marks too_high change_one checked find_of rows inside
 others_kept p q m j few d = go ((only_stored_changes set_one p one_fits).elements q m j few)
   where
@@ -275,12 +274,12 @@ others_kept p q m j few d = go ((only_stored_changes set_one p one_fits).element
     go (inr n) = absurd (none n.0.1)
 
 -- StoredIsThere: 9900, between two others, and the marks of the first address, as the last one has an error
-pnu_of : Found → ℕ
-pnu_of (At r) = r.pnu
-pnu_of Nothing = 0
+pnu_of : Option Row → ℕ
+pnu_of (Some r) = r.pnu
+pnu_of None = 0
 
 module _ (p : List ℕ) (size : length p ≡ part_size) (q : Row) where
-  user_there : find_of 9900 ≡ At q → element_of q 0 (worked set_three p).part ≡ 65535
+  user_there : find_of 9900 ≡ Some q → element_of q 0 (worked set_three p).part ≡ 65535
   unfolding set_three marks levels user number change_one checked find_of rows inside pnu_of
   user_there e =
       stored_is_there set_three p set_fits refl size
@@ -301,7 +300,7 @@ module _ (p : List ℕ) (size : length p ≡ part_size) (q : Row) where
       later (inl x) = omega (arith, ap pnu_of (x.names.found ∙ sym e))
       later {c = c} (inr x) = elim x [ ]
 
-  marks_there : find_of 30001 ≡ At q → (j : ℕ) → 1 ≤ j → j < 3 → element_of q j (worked set_two p).part ≡ get_or (0 ∷ 3000 ∷ []) (j - 1) 0
+  marks_there : find_of 30001 ≡ Some q → (j : ℕ) → 1 ≤ j → j < 3 → element_of q j (worked set_two p).part ≡ get_or (0 ∷ 3000 ∷ []) (j - 1) 0
   unfolding set_two marks levels user number too_high change_one checked find_of rows inside pnu_of
   marks_there e j low high =
       stored_is_there set_two p two_fit refl size

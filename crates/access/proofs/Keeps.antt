@@ -1,5 +1,6 @@
 -- What is kept of a part that a request is worked on: all but the elements that it stores and the versions by these, their limits, and
 -- that it is well-formed.
+use Rattle.std.specs.Prelude.{Some}
 use mathlib.Core.Path.{◌≡◌, refl, sym, ap, ◌∙◌}
 use mathlib.Core.Bool.{Bool, true, false, cond, not, ◌&&◌, ◌||◌, true≢false, and-eq-true_iff}
 use mathlib.Core.List.{List, [], ◌∷◌, Memᴰ}
@@ -23,7 +24,6 @@ use Rattle.blocks.proofs.Page.{request_valid}
 use Rattle.blocks.specs.declared.reader.Address.{Address}
 use Rattle.drive.specs.Faults.{situations, buffer_codes, all_proper}
 use Rattle.catalogue.specs.declared.Row.{Row}
-use Rattle.catalogue.specs.declared.Found.TheVariants.{At}
 use Rattle.catalogue.specs.Table.{rows, parameter_bytes, find_of, offset_of, element_size}
 use Rattle.catalogue.specs.Element.{element_place, inside, element_of, put_element, fresh_of, every_element, every_row}
 use Rattle.catalogue.proofs.Elements.{element_length, element_stored, element_unstored}
@@ -223,7 +223,7 @@ module _ (May : Row → ℕ → Type 0) (writes : (q : Row) (j : ℕ) → May q 
       (λ t. elements_map _ _ q.count (λ j h e. ap (λ (x : ℕ). eqb x (fresh_of q j)) (unwritten q m (fixed_row q m t) j h) ∙ e))
 
   -- a parameter of words that cannot be written, as the fault buffer is
-  words_kept : (pnu : ℕ) (q : Row) → find_of pnu ≡ At q → element_size q.kind ≡ 2 → q.writable ≡ false → words_at q.count after (offset_of pnu) ≡ words_at q.count p (offset_of pnu)
+  words_kept : (pnu : ℕ) (q : Row) → find_of pnu ≡ Some q → element_size q.kind ≡ 2 → q.writable ≡ false → words_at q.count after (offset_of pnu) ≡ words_at q.count p (offset_of pnu)
   unfolding element_of offset_of
   words_kept pnu q e two shut =
       rw e (numbers_same 2 q.count after p q.offset (λ j h. rw two at (unwritten q (found_row pnu q e) shut j h)))

@@ -1,4 +1,5 @@
 -- The loop over the addresses of a request: what is left to answer from where it stands is what was to be answered at first.
+use Rattle.std.specs.Prelude.{Option, Some, None}
 use mathlib.Core.Path.{◌≡◌, sym, ◌∙◌, ap}
 use mathlib.Core.Bool.{Bool, false, ◌||◌}
 use mathlib.Core.List.{List, ◌∷◌}
@@ -11,8 +12,6 @@ use Rattle.blocks.specs.Block.{block_limit}
 use Rattle.blocks.specs.Page.{block_bytes}
 use Rattle.blocks.specs.Place.{onward, step_at, walk}
 use Rattle.blocks.specs.declared.reader.Address.{Address}
-use Rattle.blocks.specs.declared.reader.Step.{Step}
-use Rattle.blocks.specs.declared.reader.Step.TheVariants.{Next, End}
 use Rattle.access.specs.declared.reply.Written.{Written}
 use Rattle.access.specs.Read.{block_size, read_block, read_blocks}
 use Rattle.access.specs.Walk.{Wrote, WroteAll}
@@ -20,13 +19,13 @@ use Rattle.access.proofs.Filled.{sofar, one, all, one_wrote, all_wrote}
 use Rattle.access.proofs.Room.{size_written, block_room, blocks_room}
 
 -- a step of the walk over the addresses that are left
-pub walk_next : (s : List ℕ) (at left : ℕ) (a : Address) (next : ℕ) → step_at s at ≡ Next a next → walk (suc left) s at ≡ a ∷ walk left s next
+pub walk_next : (s : List ℕ) (at left : ℕ) (a : Address) (next : ℕ) → step_at s at ≡ Some (a, next) → walk (suc left) s at ≡ a ∷ walk left s next
 walk_next s at left a next e = ap (onward (walk left s)) e
 
 -- addresses are left, so one stands here
-pub walk_end : (s : List ℕ) (at left : ℕ) → 0 < left → length (walk left s at) ≡ left → step_at s at ≡ End → ⊥
+pub walk_end : (s : List ℕ) (at left : ℕ) → 0 < left → length (walk left s at) ≡ left → step_at s at ≡ None → ⊥
 walk_end s at zero h w e = omega arith
-walk_end s at (suc left) h w e = let z : length (walk (suc left) s at) ≡ 0 = ap (λ (x : Step). length (onward (walk left s) x)) e in omega arith
+walk_end s at (suc left) h w e = let z : length (walk (suc left) s at) ≡ 0 = ap (λ (x : Option (Address × ℕ)). length (onward (walk left s) x)) e in omega arith
 
 pub record Reading (p s : List ℕ) (n : ℕ) (out₀ out : List ℕ) (at used : ℕ) (error : Bool) (left : ℕ) : Type 0 where
   pub whole : length (walk left s at) ≡ left
@@ -35,7 +34,7 @@ pub record Reading (p s : List ℕ) (n : ℕ) (out₀ out : List ℕ) (at used :
   pub todo : all (read_blocks p used (walk left s at)) (sofar out used error) ≡ all (read_blocks p 4 (walk n s 4)) (sofar out₀ 4 false)
 
 module _ (p s : List ℕ) (n : ℕ) (out₀ out : List ℕ) (at used : ℕ) (error : Bool) where
-  next_turn : (left : ℕ) (a : Address) (next : ℕ) (m : List ℕ) (w : Written) → step_at s at ≡ Next a next → Wrote out m used (read_block p used left a) w → Reading p s n out₀ out at used error (suc left) → Reading p s n out₀ m next w.next (error || w.error) left
+  next_turn : (left : ℕ) (a : Address) (next : ℕ) (m : List ℕ) (w : Written) → step_at s at ≡ Some (a, next) → Wrote out m used (read_block p used left a) w → Reading p s n out₀ out at used error (suc left) → Reading p s n out₀ m next w.next (error || w.error) left
   next_turn left a next m w e o r =
       let more = walk left s next in
       let b = read_block p used left a in
@@ -53,7 +52,7 @@ module _ (p s : List ℕ) (n : ℕ) (out₀ out : List ℕ) (at used : ℕ) (err
             ∙ (ap (λ (l : List Address). all (read_blocks p used l) (sofar out used error)) (sym k) ∙ r.todo)));
       }
 
-  pub turn : (left : ℕ) (a : Address) (next : ℕ) (m : List ℕ) (w : Written) → 0 < left → step_at s at ≡ Next a next → Wrote out m used (read_block p used (left - 1) a) w → Reading p s n out₀ out at used error left → Reading p s n out₀ m next w.next (error || w.error) (left - 1)
+  pub turn : (left : ℕ) (a : Address) (next : ℕ) (m : List ℕ) (w : Written) → 0 < left → step_at s at ≡ Some (a, next) → Wrote out m used (read_block p used (left - 1) a) w → Reading p s n out₀ out at used error left → Reading p s n out₀ m next w.next (error || w.error) (left - 1)
   turn zero a next m w h e o r = absurd (omega arith)
   turn (suc left) a next m w h e o r = rw sub-one (next_turn left a next m w e (rw sub-one at o) r)
 

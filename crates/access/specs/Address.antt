@@ -1,9 +1,8 @@
 -- Document 01, "Each address is worked in order, the first error counts": the rule for one address.
-use Rattle.std.specs.Prelude.{cond, not, ◌&&◌, ◌||◌, [], ◌∷◌, ℕ, ◌+◌, eqb, ltb}
+use Rattle.catalogue.specs.declared.Row.{Row}
+use Rattle.std.specs.Prelude.{cond, not, ◌&&◌, ◌||◌, [], ◌∷◌, ℕ, ◌+◌, eqb, ltb, Option, Some, None}
 use Rattle.blocks.specs.Block.{Block}
 use Rattle.blocks.specs.declared.reader.Address.{Address}
-use Rattle.catalogue.specs.declared.Found.{Found}
-use Rattle.catalogue.specs.declared.Found.TheVariants.{At, Nothing}
 use Rattle.catalogue.specs.Table.{find_of}
 use Rattle.access.specs.declared.Checked.{Checked}
 use Rattle.access.specs.declared.Checked.TheVariants.{Elements, Error}
@@ -11,9 +10,9 @@ use Rattle.access.specs.declared.Checked.TheVariants.{Elements, Error}
 -- "unless the PNU is found, 0x00"; "attribute 0x20 gives 0x09, 0x30 gives 0x0F, any other but 0x10 gives 0x16"; "simple with
 -- sub-index not 0 or more than one element 0x04 (0 elements count as 1)"; "array with 0 elements 0x16"; "array whose sub-index
 -- plus elements passes its length 0x03"
-abbrev pub checked_in : Address → Found → Checked
-checked_in a Nothing = Error 0x00
-checked_in a (At r) =
+abbrev pub checked_in : Address → Option Row → Checked
+checked_in a None = Error 0x00
+checked_in a (Some r) =
     cond (eqb a.attribute 0x20) (Error 0x09)
     (cond (eqb a.attribute 0x30) (Error 0x0F)
     (cond (not (eqb a.attribute 0x10)) (Error 0x16)

@@ -1,6 +1,6 @@
 -- What callers may cite of every request that is worked on a part, whatever that part holds: from document 01, "Response block",
 -- "Parameters of each axis" and "A part is well-formed", and document 02, R-4 and R-6. Each is a statement here and a proof in proofs/.
-use Rattle.std.specs.Prelude.{◌≡◌, true, false, cond, ◌||◌, ◌⊎◌, ◌↔◌, ℕ, ◌+◌, ◌-◌, ◌≤◌, ◌<◌, eqb, length, get_or}
+use Rattle.std.specs.Prelude.{◌≡◌, true, false, cond, ◌||◌, ◌⊎◌, ◌↔◌, ℕ, ◌+◌, ◌-◌, ◌≤◌, ◌<◌, eqb, length, get_or, Some}
 use mathlib.Core.List.{List, [], ◌∷◌, ◌++◌, Memᴰ}
 use Rattle.codes.specs.Code.{AllOf, readable}
 use Rattle.blocks.specs.Block.{Block, block_limit}
@@ -11,7 +11,6 @@ use Rattle.blocks.specs.Place.{header_of}
 use Rattle.blocks.specs.declared.reader.Address.{Address}
 use Rattle.checker.specs.Laws.{Answers}
 use Rattle.catalogue.specs.declared.Row.{Row}
-use Rattle.catalogue.specs.declared.Found.TheVariants.{At}
 use Rattle.catalogue.specs.Table.{rows, find_of}
 use Rattle.catalogue.specs.Element.{size_code, type_code, inside, element_of}
 use Rattle.versions.specs.Keep.{taken}
@@ -88,7 +87,7 @@ ReadIsThere =
 
 -- an address names element j of a row: it passes the checks, and j is one of its elements from its sub-index on
 pub record Names (a : Address) (q : Row) (j : ℕ) : Type 0 where
-  pub found : find_of a.pnu ≡ At q
+  pub found : find_of a.pnu ≡ Some q
   pub number : ℕ
   pub passed : checked a ≡ Elements q number
   pub low : a.subindex ≤ j

@@ -1,16 +1,15 @@
 // What an address names: the elements of a parameter, or its error.
-ghost use Rattle.std.specs.Prelude.{◌≡◌, true, false};
-ghost use Rattle.catalogue.specs.declared.Found.TheVariants.{At};
+ghost use Rattle.std.specs.Prelude.{◌≡◌, true, false, Some};
 ghost use Rattle.access.specs.Address.{checked_in, checked};
 
 use super::Checked;
 use blocks::reader::Address;
-use catalogue::{Found, Row};
+use catalogue::Row;
 
 // A simple parameter, where its values are asked for.
 fn of_simple(a: Address, r: Row) -> Checked
     requires { (a.attribute ≡ 0x10) × (r.simple ≡ true) }
-    ensures { result ≡ checked_in a (At r) }
+    ensures { result ≡ checked_in a (Some r) }
 {
     if a.subindex == 0 {
         if a.elements <= 1 {
@@ -23,7 +22,7 @@ fn of_simple(a: Address, r: Row) -> Checked
 // An array, where its values are asked for.
 fn of_array(a: Address, r: Row) -> Checked
     requires { (a.attribute ≡ 0x10) × (r.simple ≡ false) }
-    ensures { result ≡ checked_in a (At r) }
+    ensures { result ≡ checked_in a (Some r) }
 {
     if a.elements == 0 {
         return Checked::Error(0x16);
@@ -35,7 +34,7 @@ fn of_array(a: Address, r: Row) -> Checked
 }
 
 fn of_row(a: Address, r: Row) -> Checked
-    ensures { result ≡ checked_in a (At r) }
+    ensures { result ≡ checked_in a (Some r) }
 {
     if a.attribute == 0x20 {
         return Checked::Error(0x09);
@@ -58,8 +57,7 @@ fn of_row(a: Address, r: Row) -> Checked
 pub fn check_read(a: Address) -> Checked
     ensures { result ≡ checked a }
 {
-    let f = catalogue::find(a.pnu);
-    let Found::At(r) = f else {
+    let Some(r) = catalogue::find(a.pnu) else {
         return Checked::Error(0x00);
     };
     of_row(a, r)
@@ -69,8 +67,7 @@ pub fn check_read(a: Address) -> Checked
 pub fn check_change(a: Address) -> Checked
     ensures { result ≡ checked a }
 {
-    let f = catalogue::find(a.pnu);
-    let Found::At(r) = f else {
+    let Some(r) = catalogue::find(a.pnu) else {
         return Checked::Error(0x00);
     };
     of_row(a, r)

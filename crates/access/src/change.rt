@@ -1,12 +1,11 @@
 // A change (02): addresses stored whole or not at all, and the blocks that answer them.
-ghost use Rattle.std.specs.Prelude.{◌≡◌, true, ◌||◌, ◌+◌, ◌*◌, ◌≤◌, eqb, length};
+ghost use Rattle.std.specs.Prelude.{◌≡◌, true, ◌||◌, ◌+◌, ◌*◌, ◌≤◌, eqb, length, Some};
 ghost use Rattle.codes.specs.Code.{readable};
 ghost use Rattle.codes.specs.Number.{number_at, numbers_at};
 ghost use Rattle.drive.specs.Faults.{buffer_codes};
 ghost use Rattle.blocks.specs.Block.{block_limit};
 ghost use Rattle.blocks.specs.Request.{request};
 ghost use Rattle.blocks.specs.Place.{header_of, block_at, walk};
-ghost use Rattle.blocks.specs.declared.BlockAt.TheVariants.{Stands};
 ghost use Rattle.blocks.specs.declared.Head.{Head};
 ghost use Rattle.catalogue.specs.Table.{element_size};
 ghost use Rattle.catalogue.specs.Element.{size_code, type_code, value_of};
@@ -15,7 +14,7 @@ ghost use Rattle.access.specs.Walk.{block_in, blocks_in, answer_in, Did, DidAll,
 
 use super::reply::Written;
 use super::{Checked, Report, copies, reply};
-use blocks::reader::{Address, Step};
+use blocks::reader::Address;
 use blocks::{Head, Header};
 use catalogue::{Kind, Row};
 
@@ -150,7 +149,7 @@ fn change_elements(
     at: usize,
     h: Head,
 ) -> Done
-    requires { (a.subindex + n ≤ buffer_codes) × (block_at block.now at ≡ Stands h) }
+    requires { (a.subindex + n ≤ buffer_codes) × (block_at block.now at ≡ Some h) }
     ensures { Did (of_elements a (block_in block.now at) part.old r n) part.new result }
 {
     if !r.writable {
@@ -173,7 +172,7 @@ fn change_elements(
 
 // One address, with its block of values.
 fn change_one(part: &mut [u8], a: Address, block: &[u8], at: usize, h: Head) -> Done
-    requires { block_at block.now at ≡ Stands h }
+    requires { block_at block.now at ≡ Some h }
     ensures { Did (change_one a (block_in block.now at) part.old) part.new result }
 {
     let c = super::address::check_change(a);
@@ -201,8 +200,8 @@ fn put_answer(out: &mut [u8], at: usize, d: Done) -> Written
 
 // How the block of values at `at` begins: one stands there.
 fn head_here(block: &[u8], at: usize) -> Head
-    requires { (h : Head) × (block_at block.now at ≡ Stands h) }
-    ensures { block_at block.now at ≡ Stands result }
+    requires { (h : Head) × (block_at block.now at ≡ Some h) }
+    ensures { block_at block.now at ≡ Some result }
 {
     let f = block[at];
     let n = block[at + 1];
@@ -230,8 +229,7 @@ pub(crate) fn change_all(part: &mut [u8], block: &[u8], n: usize, out: &mut [u8]
         stored: 0,
     };
     while at < end {
-        let s = blocks::reader::address_at(block, at);
-        let Step::Next(a, next) = s else {
+        let Some((a, next)) = blocks::reader::address_at(block, at) else {
             return all;
         };
         let h = head_here(block, from);

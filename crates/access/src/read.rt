@@ -15,7 +15,7 @@ ghost use Rattle.access.specs.Walk.{Wrote, WroteAll, request_in, responded_part}
 use super::reply::Written;
 use super::{Checked, copies, reply};
 use blocks::Header;
-use blocks::reader::{Address, Step};
+use blocks::reader::Address;
 use catalogue::Row;
 
 // No parameter has more elements than the fault buffer.
@@ -111,8 +111,7 @@ pub(crate) fn read_all(part: &[u8], block: &[u8], n: usize, out: &mut [u8]) -> W
     let mut error = false;
     let mut left = n;
     while 0 < left {
-        let s = blocks::reader::address_at(block, at);
-        let Step::Next(a, next) = s else {
+        let Some((a, next)) = blocks::reader::address_at(block, at) else {
             return Written { next: used, error };
         };
         left -= 1;

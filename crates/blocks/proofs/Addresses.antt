@@ -1,4 +1,5 @@
 -- The addresses of a request: what a step of the walk finds, and that a walk from the first address finds them all.
+use Rattle.std.specs.Prelude.{Option, Some, None}
 use mathlib.Core.Path.{◌≡◌, refl, sym, ◌∙◌, ap}
 use mathlib.Core.List.{List, [], ◌∷◌}
 use mathlib.Core.Bool.{Bool, true, false, cond}
@@ -16,7 +17,6 @@ use Rattle.codes.proofs.Items.{first_read}
 use Rattle.codes.proofs.Fixed.{Bytes, byte_at, Fixed, fixed_byte, fixed_give, fixed_field, fixed_word}
 use Rattle.codes.proofs.Number.{number_is, byte_number}
 use Rattle.blocks.specs.declared.reader.Address.{Address}
-use Rattle.blocks.specs.declared.reader.Step.TheVariants.{Next, End}
 use Rattle.blocks.specs.Request.{Request, address, request}
 use Rattle.blocks.specs.Place.{addresses_end, step_at, walk}
 use Rattle.blocks.proofs.Sound.{address_sound}
@@ -51,12 +51,12 @@ address_here s b at h a ea ee ep es =
     rw (byte_here s b at (omega arith), byte_here s b (at + 1) (omega arith), e2, word_here s b (at + 2) (omega arith), e4, word_here s b (at + 4) (omega arith), e6, ← ea, ← ee, ← ep, ← es)
 
 -- past the end of the addresses there is none
-pub address_end : (s : List ℕ) (at : ℕ) → addresses_end s < at + 6 → step_at s at ≡ End
+pub address_end : (s : List ℕ) (at : ℕ) → addresses_end s < at + 6 → step_at s at ≡ None
 unfolding step_at
 address_end s at h = rw (lt-leb _ _ h)
 
 -- where fewer than six bytes are left, no address stands
-pub address_short : (s : List ℕ) → Bytes s → (at : ℕ) → length s < at + 6 → step_at s at ≡ End
+pub address_short : (s : List ℕ) → Bytes s → (at : ℕ) → length s < at + 6 → step_at s at ≡ None
 unfolding step_at address
 address_short s b at h = rw (unread (dec_le at (length s))) (either (leb (at + 6) (addresses_end s)))
   where
@@ -64,12 +64,12 @@ address_short s b at h = rw (unread (dec_le at (length s))) (either (leb (at + 6
     unread (yes y) = fixed_address.short s b at y h
     unread (no n) = rw (drop_of_length-le s {i = at} (omega arith))
 
-    either : (t : Bool) → cond t End End ≡ End
+    either : (t : Bool) → let none : Option (Address × ℕ) = None in cond t none none ≡ none
     either true = refl
     either false = refl
 
 -- the address that is read at a place is what a step there finds
-pub address_next : (s : List ℕ) (at : ℕ) (a : Address) (t : List ℕ) → address.read (drop at s) ≡ got a t → at + 6 ≤ addresses_end s → step_at s at ≡ Next a (at + 6)
+pub address_next : (s : List ℕ) (at : ℕ) (a : Address) (t : List ℕ) → address.read (drop at s) ≡ got a t → at + 6 ≤ addresses_end s → step_at s at ≡ Some (a, (at + 6))
 unfolding step_at
 address_next s at a t e h = rw (le-leb _ _ h, e)
 
@@ -81,7 +81,7 @@ address_after s at a t e =
     sym (drop_at (address.write a) t 6 refl) ∙ (ap (λ (l : List ℕ). drop 6 l) (sym k) ∙ drop-drop 6 at s)
 
 -- one step over addresses that are read in a row: it finds the first of them, and the others are read from there on
-pub address_step : (s : List ℕ) (at n : ℕ) (a : Address) (more : List Address) (u : List ℕ) → read_times address.read (suc n) (drop at s) ≡ got (a ∷ more) u → at + 6 ≤ addresses_end s → (step_at s at ≡ Next a (at + 6)) × (read_times address.read n (drop (at + 6) s) ≡ got more u)
+pub address_step : (s : List ℕ) (at n : ℕ) (a : Address) (more : List Address) (u : List ℕ) → read_times address.read (suc n) (drop at s) ≡ got (a ∷ more) u → at + 6 ≤ addresses_end s → (step_at s at ≡ Some (a, (at + 6))) × (read_times address.read n (drop (at + 6) s) ≡ got more u)
 address_step s at n a more u e h =
     let p = first_read address.read n (drop at s) a more u e in
     (address_next s at a p.0 p.1 h, rw (← address_after s at a p.0 p.1) p.2)
@@ -97,7 +97,7 @@ walk_all s (suc n) (a ∷ more) at u e f h =
     rw p.0 (ap (λ (l : List Address). a ∷ l) (walk_all s n more (at + 6) u p.1 (omega arith) (omega arith)))
 
 -- and step number i finds the i-th of them
-nth_all : (s : List ℕ) (them : List Address) (at i : ℕ) (d : Address) (u : List ℕ) → read_times address.read (length them) (drop at s) ≡ got them u → addresses_end s ≡ at + length them * 6 → i < length them → step_at s (at + i * 6) ≡ Next (get_or them i d) (at + i * 6 + 6)
+nth_all : (s : List ℕ) (them : List Address) (at i : ℕ) (d : Address) (u : List ℕ) → read_times address.read (length them) (drop at s) ≡ got them u → addresses_end s ≡ at + length them * 6 → i < length them → step_at s (at + i * 6) ≡ Some ((get_or them i d), (at + i * 6 + 6))
 nth_all s [] at i d u e f h = absurd (omega arith)
 nth_all s (a ∷ more) at zero d u e f h =
     let z : at + 0 * 6 ≡ at = omega arith in
@@ -113,5 +113,5 @@ pub address_steps : (s : List ℕ) (r : Request) (t : List ℕ) → request.read
 address_steps s r t e n h = walk_all s n r.addresses 4 (drop (addresses_end s) s) (addresses_read s r t e) (addresses_end_lem s r t e) h
 
 -- the address number i of a request stands at 4 and i times 6
-pub address_nth : (s : List ℕ) (r : Request) (t : List ℕ) → request.read s ≡ got r t → (i : ℕ) (d : Address) → i < length r.addresses → step_at s (4 + i * 6) ≡ Next (get_or r.addresses i d) (4 + i * 6 + 6)
+pub address_nth : (s : List ℕ) (r : Request) (t : List ℕ) → request.read s ≡ got r t → (i : ℕ) (d : Address) → i < length r.addresses → step_at s (4 + i * 6) ≡ Some ((get_or r.addresses i d), (4 + i * 6 + 6))
 address_nth s r t e i d h = nth_all s r.addresses 4 i d (drop (addresses_end s) s) (addresses_read s r t e) (addresses_end_lem s r t e) h

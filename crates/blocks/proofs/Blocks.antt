@@ -1,4 +1,5 @@
 -- Where a block of values stands, ends and holds its values.
+use Rattle.std.specs.Prelude.{Some, None}
 use mathlib.Core.Path.{◌≡◌, refl, sym, ◌∙◌, ap}
 use mathlib.Core.List.{List, ◌++◌, append-nil, append_assoc}
 use mathlib.Core.Bool.{Bool, true, false, true≢false, cond, ◌||◌}
@@ -18,7 +19,6 @@ use Rattle.codes.proofs.Items.{all_length, item_at, tail_stands}
 use Rattle.codes.proofs.Number.{number_is}
 use Rattle.codes.proofs.Put.{word_length, fill_bytes}
 use Rattle.blocks.specs.declared.Head.{Head}
-use Rattle.blocks.specs.declared.BlockAt.TheVariants.{Stands, Nothing}
 use Rattle.blocks.specs.Block.{Block, one_byte, two_bytes, four_bytes, format_size, value_size, change_block_fits, fill_size, values_of, values_size, block}
 use Rattle.blocks.specs.Place.{head_of, block_at, value_at}
 use Rattle.blocks.specs.Walk.{block_by}
@@ -110,10 +110,10 @@ module _ (f n : ℕ) (s : List ℕ) (b : Bytes s) (at : ℕ) (h : at + values_si
 
 -- The block at a place: two bytes, the format and the count, and then the values.
 module _ (fits : ℕ → ℕ → Bool) (s : List ℕ) (b : Bytes s) (at : ℕ) where
-  nothing : (block fits).read (drop at s) ≡ bad → Nothing ≡ block_by fits s at
+  nothing : (block fits).read (drop at s) ≡ bad → None ≡ block_by fits s at
   nothing e = rw e
 
-  pub block_stub : length s < at + 2 → Nothing ≡ block_by fits s at
+  pub block_stub : length s < at + 2 → None ≡ block_by fits s at
   unfolding block
   block_stub k = nothing (go (dec_le (at + 1) (length s)))
     where
@@ -128,7 +128,7 @@ module _ (fits : ℕ → ℕ → Bool) (s : List ℕ) (b : Bytes s) (at : ℕ) w
     abbrev n : ℕ
     n = get_or s (at + 1) 0
 
-    pub block_unfit : fits f n ≡ false → Nothing ≡ block_by fits s at
+    pub block_unfit : fits f n ≡ false → None ≡ block_by fits s at
     unfolding block
     block_unfit e = nothing (rw (byte_at s b at (omega arith), byte_at s b (at + 1) (omega arith), e))
 
@@ -136,21 +136,21 @@ module _ (fits : ℕ → ℕ → Bool) (s : List ℕ) (b : Bytes s) (at : ℕ) w
       two : at + 1 + 1 ≡ at + 2
       two = omega arith
 
-      unread : (values_of f n).read (drop (at + 2) s) ≡ bad → Nothing ≡ block_by fits s at
+      unread : (values_of f n).read (drop (at + 2) s) ≡ bad → None ≡ block_by fits s at
       unfolding block
       unread v = nothing (rw (byte_at s b at (omega arith), byte_at s b (at + 1) (omega arith), e, two, v))
 
-      pub block_short : length s < at + 2 + (n * value_size f + fill_size f n) → Nothing ≡ block_by fits s at
+      pub block_short : length s < at + 2 + (n * value_size f + fill_size f n) → None ≡ block_by fits s at
       block_short l = unread (values_short f n (drop (at + 2) s) (omega (arith, values_size_lem f n, length-drop (at + 2) s)))
 
       module _ (l : at + 2 + (n * value_size f + fill_size f n) ≤ length s) where
         pub room : at + 2 + values_size f n ≤ length s
         room = omega (arith, values_size_lem f n)
 
-        pub block_unfilled : filled f n s b (at + 2) room ≡ false → Nothing ≡ block_by fits s at
+        pub block_unfilled : filled f n s b (at + 2) room ≡ false → None ≡ block_by fits s at
         block_unfilled t = unread (values_unfilled f n s b (at + 2) room t)
 
-        pub block_long : filled f n s b (at + 2) room ≡ true → Stands (record { format = f; count = n; size = value_size f; next = at + 2 + (n * value_size f + fill_size f n) }) ≡ block_by fits s at
+        pub block_long : filled f n s b (at + 2) room ≡ true → Some (record { format = f; count = n; size = value_size f; next = at + 2 + (n * value_size f + fill_size f n) }) ≡ block_by fits s at
         unfolding block
         block_long t =
             let v = values_filled f n s b (at + 2) room t in
@@ -171,10 +171,10 @@ module _ (fits : ℕ → ℕ → Bool) (s : List ℕ) (at : ℕ) where
   rest_stands : (b : Block) (t : List ℕ) → (block fits).read (drop at s) ≡ got b t → t ≡ drop (length s - length t) s
   rest_stands b t e = tail_stands s at ((block fits).write b) t ((block_sound fits).only (drop at s) b t e).1
 
-  pub block_stands : (h : Head) → block_by fits s at ≡ Stands h → Stood fits s at h
+  pub block_stands : (h : Head) → block_by fits s at ≡ Some h → Stood fits s at h
   block_stands h = go ((block fits).read (drop at s)) refl
     where
-      go : (g : Got Block) → (block fits).read (drop at s) ≡ g → head_of (length s) g ≡ Stands h → Stood fits s at h
+      go : (g : Got Block) → (block fits).read (drop at s) ≡ g → head_of (length s) g ≡ Some h → Stood fits s at h
       go (got b t) e q =
           let n : length s - length t ≡ h.next = cc in
           record {
@@ -187,10 +187,10 @@ module _ (fits : ℕ → ℕ → Bool) (s : List ℕ) (at : ℕ) where
           }
       go bad e q = absurd (let z : ◌≡◌ {A = ℕ} 0 1 = cc in omega arith)
 
-  pub block_falls : block_by fits s at ≡ Nothing → (block fits).read (drop at s) ≡ bad
+  pub block_falls : block_by fits s at ≡ None → (block fits).read (drop at s) ≡ bad
   block_falls = go ((block fits).read (drop at s)) refl
     where
-      go : (g : Got Block) → (block fits).read (drop at s) ≡ g → head_of (length s) g ≡ Nothing → (block fits).read (drop at s) ≡ bad
+      go : (g : Got Block) → (block fits).read (drop at s) ≡ g → head_of (length s) g ≡ None → (block fits).read (drop at s) ≡ bad
       go (got b t) e q = absurd (let z : ◌≡◌ {A = ℕ} 0 1 = cc in omega arith)
       go bad e q = e
 
@@ -233,7 +233,7 @@ value_stands fits s at b t j e h =
 
 -- the j-th value of a block of a change, by what the code knows of its head
 module _ (s : List ℕ) (at j : ℕ) where
-  pub value_nowhere : block_at s at ≡ Nothing → 0 ≡ value_at s at j
+  pub value_nowhere : block_at s at ≡ None → 0 ≡ value_at s at j
   unfolding value_at
   value_nowhere e = rw (block_falls change_block_fits s at e)
 

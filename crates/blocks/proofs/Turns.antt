@@ -1,4 +1,5 @@
 -- A loop over blocks: what is left to read from where it stands is what was to be read at first.
+use Rattle.std.specs.Prelude.{Some, None}
 use mathlib.Core.Path.{◌≡◌, refl, sym, ◌∙◌, ap, subst}
 use mathlib.Core.List.{List, ◌∷◌}
 use mathlib.Core.Bool.{Bool, true, false, not, ◌||◌}
@@ -17,7 +18,6 @@ use Rattle.blocks.specs.Walk.{block_by, map_got, standing, InBlock, Walked, erri
 use Rattle.blocks.specs.declared.Walk.{Walk}
 use Rattle.blocks.specs.declared.Walk.TheVariants.{At, Bad}
 use Rattle.blocks.specs.declared.Head.{Head}
-use Rattle.blocks.specs.declared.BlockAt.TheVariants.{Stands, Nothing}
 use Rattle.blocks.proofs.Blocks.{block_stands, block_falls}
 
 -- n blocks read from s, with the errors met before them
@@ -59,10 +59,10 @@ module _ (fits : ℕ → ℕ → Bool) (s : List ℕ) (from n at left : ℕ) (er
   found = map_got has_error (read_times (block fits).read n (drop from s))
 
   module _ (h : 0 < left) where
-    pub walk_stops : block_by fits s at ≡ Nothing → Walked s found Bad
+    pub walk_stops : block_by fits s at ≡ None → Walked s found Bad
     walk_stops e = record { stands = halt fits (drop at s) error left h (block_falls fits s at e) ∙ w.todo; in_block = tt }
 
-    pub walk_goes_on : (head : Head) (x : Bool) → block_by fits s at ≡ Stands head → x ≡ (error || eqb head.format 0x44) → Walking fits s from n head.next (left - 1) x
+    pub walk_goes_on : (head : Head) (x : Bool) → block_by fits s at ≡ Some head → x ≡ (error || eqb head.format 0x44) → Walking fits s from n head.next (left - 1) x
     walk_goes_on head x e ex =
         let stood = block_stands fits s at head e in
         record {

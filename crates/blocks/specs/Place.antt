@@ -1,13 +1,10 @@
 -- What stands at a place of a block, as the layouts of document 01 read it from there.
-use Rattle.std.specs.Prelude.{List, [], ◌∷◌, cond, ℕ, zero, suc, ◌+◌, ◌-◌, ◌*◌, length, get_or, drop, leb}
+use Rattle.blocks.specs.declared.Head.{Head}
+use Rattle.std.specs.Prelude.{List, [], ◌∷◌, cond, ℕ, zero, suc, ◌+◌, ◌-◌, ◌*◌, length, get_or, drop, leb, Option, Some, None}
 use Rattle.codes.specs.Code.{Got, got, bad}
 use Rattle.codes.specs.Number.{number_at, put}
 use Rattle.blocks.specs.declared.Header.{Header}
-use Rattle.blocks.specs.declared.BlockAt.{BlockAt}
-use Rattle.blocks.specs.declared.BlockAt.TheVariants.{Stands, Nothing}
 use Rattle.blocks.specs.declared.reader.Address.{Address}
-use Rattle.blocks.specs.declared.reader.Step.{Step}
-use Rattle.blocks.specs.declared.reader.Step.TheVariants.{Next, End}
 use Rattle.blocks.specs.Block.{Block, value_size, change_block_fits, block}
 use Rattle.blocks.specs.Request.{address}
 use Rattle.blocks.specs.Page.{block_bytes}
@@ -26,12 +23,12 @@ abbrev pub header_bytes : Header → List ℕ
 header_bytes h = h.reference ∷ h.identifier ∷ h.axis ∷ h.count ∷ []
 
 -- the format and the count of a block that was read in a list of n bytes, the bytes of each value, and where the next begins
-abbrev pub head_of : ℕ → Got Block → BlockAt
-head_of n (got b t) = Stands (record { format = b.format; count = length b.values; size = value_size b.format; next = n - length t })
-head_of n bad = Nothing
+abbrev pub head_of : ℕ → Got Block → Option Head
+head_of n (got b t) = Some (record { format = b.format; count = length b.values; size = value_size b.format; next = n - length t })
+head_of n bad = None
 
 -- the block of a change that stands at a place
-abbrev pub block_at : List ℕ → ℕ → BlockAt
+abbrev pub block_at : List ℕ → ℕ → Option Head
 block_at s at = head_of (length s) ((block change_block_fits).read (drop at s))
 
 -- and its j-th value; 0 where there is none
@@ -47,17 +44,17 @@ abbrev pub addresses_end : List ℕ → ℕ
 addresses_end s = 4 + (header_of s).count * 6
 
 -- the address at a place and the place after it, or the end of the addresses
-abbrev pub step_of : ℕ → Got Address → Step
-step_of next (got a t) = Next a next
-step_of next bad = End
+abbrev pub step_of : ℕ → Got Address → Option (Address × ℕ)
+step_of next (got a t) = Some (a, next)
+step_of next bad = None
 
-unfoldable pub step_at : List ℕ → ℕ → Step
-step_at s at = cond (leb (at + 6) (addresses_end s)) (step_of (at + 6) (address.read (drop at s))) End
+unfoldable pub step_at : List ℕ → ℕ → Option (Address × ℕ)
+step_at s at = cond (leb (at + 6) (addresses_end s)) (step_of (at + 6) (address.read (drop at s))) None
 
 -- a walk of the addresses from a place on, of at most n steps
-abbrev pub onward : (ℕ → List Address) → Step → List Address
-onward walkFrom (Next a next) = a ∷ walkFrom next
-onward walkFrom End = []
+abbrev pub onward : (ℕ → List Address) → Option (Address × ℕ) → List Address
+onward walkFrom (Some (a, next)) = a ∷ walkFrom next
+onward walkFrom None = []
 
 abbrev pub walk : ℕ → List ℕ → ℕ → List Address
 walk zero s at = []

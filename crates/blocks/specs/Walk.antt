@@ -1,19 +1,19 @@
 -- Where the code's walk over blocks stands, said as what a reader on lists finds. No contract of a public function cites
 -- this page.
-use Rattle.std.specs.Prelude.{◌≡◌, List, Bool, true, cond, not, ◌||◌, ℕ, ◌+◌, ◌≤◌, length, get_or, drop}
+use Rattle.blocks.specs.declared.Head.{Head}
+use Rattle.std.specs.Prelude.{◌≡◌, List, Bool, true, cond, not, ◌||◌, ℕ, ◌+◌, ◌≤◌, length, get_or, drop, Option}
 use Rattle.codes.specs.Code.{Got, got, bad, and_then}
-use Rattle.blocks.specs.declared.BlockAt.{BlockAt}
 use Rattle.blocks.specs.declared.Walk.{Walk}
 use Rattle.blocks.specs.declared.Walk.TheVariants.{At, Bad}
 use Rattle.blocks.specs.Block.{block}
 use Rattle.blocks.specs.Place.{head_of}
 
 -- the block that stands at a place by a rule
-abbrev pub block_by : (ℕ → ℕ → Bool) → List ℕ → ℕ → BlockAt
+abbrev pub block_by : (ℕ → ℕ → Bool) → List ℕ → ℕ → Option Head
 block_by fits s at = head_of (length s) ((block fits).read (drop at s))
 
 -- r is the block at a place by every rule that its format and its count pass
-abbrev pub ByRules : List ℕ → ℕ → BlockAt → Type 0
+abbrev pub ByRules : List ℕ → ℕ → Option Head → Type 0
 ByRules s at r = (fits : ℕ → ℕ → Bool) → fits (get_or s at 0) (get_or s (at + 1) 0) ≡ true → r ≡ block_by fits s at
 
 abbrev pub map_got : {A B : Type 0} → (A → B) → Got A → Got B

@@ -39,12 +39,6 @@ pub struct Head {
     pub next: usize,
 }
 
-#[derive(Clone, Copy)]
-pub enum BlockAt {
-    Stands(Head),
-    Nothing,
-}
-
 // Where a walk over blocks stands, and whether it met an error block; or that the blocks are not readable.
 #[derive(Clone, Copy)]
 enum Walk {
@@ -75,7 +69,7 @@ fn is_filled(s: &[u8], at: usize, fill: usize) -> bool
 }
 
 // The block at `at`, whose two first bytes stand there and whose values take `each` bytes: for every rule that it passes.
-fn sized(s: &[u8], at: usize, each: usize) -> BlockAt
+fn sized(s: &[u8], at: usize, each: usize) -> Option<Head>
     requires { (at + 2 ≤ length s.now) × (each ≡ value_size (get_or s.now at 0)) }
     ensures { ByRules s.now at result }
 {
@@ -84,50 +78,49 @@ fn sized(s: &[u8], at: usize, each: usize) -> BlockAt
     let fill = bare % 2;
     let filled = bare + fill;
     if s.len() - 2 - at < filled {
-        return BlockAt::Nothing;
+        return None;
     }
     if !is_filled(s, at + 2 + bare, fill) {
-        return BlockAt::Nothing;
+        return None;
     }
-    let h = Head {
+    Some(Head {
         format: s[at],
         count: n,
         size: each,
         next: at + 2 + filled,
-    };
-    BlockAt::Stands(h)
+    })
 }
 
 // The block of values of a change at `at`.
-pub fn block_at(s: &[u8], at: usize) -> BlockAt
+pub fn block_at(s: &[u8], at: usize) -> Option<Head>
     ensures { result ≡ block_at s.now at }
 {
     if s.len() < 2 {
-        return BlockAt::Nothing;
+        return None;
     }
     if s.len() - 2 < at {
-        return BlockAt::Nothing;
+        return None;
     }
     let each = layout::format_size(s[at]);
     if each == 0 {
-        return BlockAt::Nothing;
+        return None;
     }
     sized(s, at, each)
 }
 
 // The block at `at` of a response with the identifier `id`.
-fn answer_at(s: &[u8], at: usize, id: u8) -> BlockAt
+fn answer_at(s: &[u8], at: usize, id: u8) -> Option<Head>
     ensures { result ≡ block_by (response_block_fits id) s.now at }
 {
     if s.len() < 2 {
-        return BlockAt::Nothing;
+        return None;
     }
     if s.len() - 2 < at {
-        return BlockAt::Nothing;
+        return None;
     }
     let f = s[at];
     if !layout::response_block_fits(id, f, s[at + 1]) {
-        return BlockAt::Nothing;
+        return None;
     }
     sized(s, at, layout::code_size(f))
 }
@@ -136,8 +129,7 @@ fn answer_at(s: &[u8], at: usize, id: u8) -> BlockAt
 pub fn value_at(s: &[u8], at: usize, j: usize) -> u32
     ensures { result ≡ value_at s.now at j }
 {
-    let b = block_at(s, at);
-    let BlockAt::Stands(h) = b else {
+    let Some(h) = block_at(s, at) else {
         return 0;
     };
     if j < codes::wide(h.count) {
@@ -156,8 +148,7 @@ fn change_end(s: &[u8], from: usize, n: usize) -> Walk
     let mut left = n;
     let mut error = false;
     while 0 < left {
-        let b = block_at(s, at);
-        let BlockAt::Stands(h) = b else {
+        let Some(h) = block_at(s, at) else {
             return Walk::Bad;
         };
         at = h.next;
@@ -176,8 +167,7 @@ fn answer_end(s: &[u8], from: usize, n: usize, id: u8) -> Walk
     let mut left = n;
     let mut error = false;
     while 0 < left {
-        let b = answer_at(s, at, id);
-        let BlockAt::Stands(h) = b else {
+        let Some(h) = answer_at(s, at, id) else {
             return Walk::Bad;
         };
         at = h.next;

@@ -15,13 +15,6 @@ pub struct Address {
     pub subindex: u16,
 }
 
-// The address at a place, with the place after it.
-#[derive(Clone, Copy)]
-pub enum Step {
-    Next(Address, usize),
-    End,
-}
-
 #[derive(Drop)]
 pub struct Reader<'a> {
     pub block: &'a [u8],
@@ -40,20 +33,20 @@ fn address_here(s: &[u8], at: usize) -> Address
     }
 }
 
-// The work: the address that stands at a place of a block.
-fn step_at(s: &[u8], at: usize) -> Step
+// The work: the address that stands at a place of a block, and the place after it.
+fn step_at(s: &[u8], at: usize) -> Option<(Address, usize)>
     ensures { result ≡ step_at s.now at }
 {
     if s.len() < 6 {
-        return Step::End;
+        return None;
     }
     if s.len() - 6 < at {
-        return Step::End;
+        return None;
     }
     if FIRST + codes::wide(codes::byte_at(s, 3)) * 6 < at + 6 {
-        return Step::End;
+        return None;
     }
-    Step::Next(address_here(s, at), at + 6)
+    Some((address_here(s, at), at + 6))
 }
 
 // A reader of the block, at its first address.
@@ -64,7 +57,7 @@ pub fn new<'a>(block: &'a [u8]) -> Reader<'a>
 }
 
 // The address where the reader stands.
-pub fn next<'a>(r: Reader<'a>) -> Step
+pub fn next<'a>(r: Reader<'a>) -> Option<(Address, usize)>
     ensures { result ≡ step_at r.entry.block.now r.entry.at }
 {
     step_at(r.block, r.at)
@@ -78,7 +71,7 @@ pub fn moved<'a>(r: Reader<'a>, at: usize) -> Reader<'a>
 }
 
 // The address that stands at a place of a block: what crates above walk with.
-pub fn address_at(block: &[u8], at: usize) -> Step
+pub fn address_at(block: &[u8], at: usize) -> Option<(Address, usize)>
     ensures { result ≡ step_at block.now at }
 {
     next(moved(new(block), at))

@@ -1,4 +1,5 @@
 -- Rows of the table: each stands after the one before it, so all stand inside the parameter bytes and no two elements share a byte.
+use Rattle.std.specs.Prelude.{Some}
 use mathlib.Core.Path.{◌≡◌, refl, sym, ap, ◌∙◌}
 use mathlib.Core.Bool.{Bool, true, ◌&&◌, and-eq-true_iff}
 use mathlib.Core.List.Memᴰ
@@ -16,19 +17,18 @@ use Rattle.codes.specs.Code.{word}
 use Rattle.codes.proofs.Number.{number_before, number_after}
 use Rattle.codes.proofs.Put.{word_length, put_drop}
 use Rattle.catalogue.specs.declared.Row.{Row}
-use Rattle.catalogue.specs.declared.Found.TheVariants.{At}
 use Rattle.catalogue.specs.Table.{element_size, bytes_of, rows, bytes_in, parameter_bytes, find_in, find_of}
 use Rattle.catalogue.specs.Element.{element_place, element_of, put_element, every_row}
 
 -- a parameter that is found is a row of the table
-found_in : (rs : List Row) (pnu : ℕ) (r : Row) → find_in rs pnu ≡ At r → Memᴰ r rs
+found_in : (rs : List Row) (pnu : ℕ) (r : Row) → find_in rs pnu ≡ Some r → Memᴰ r rs
 found_in [] pnu r e = absurd (let z : ◌≡◌ {A = ℕ} 0 1 = cc in omega arith)
 found_in (x ∷ rs) pnu r e =
     cases (eqb x.pnu pnu)
-    (λ t. let same : At x ≡ At r = rw t at e in Memᴰ.head (cc))
+    (λ t. let same : Some x ≡ Some r = rw t at e in Memᴰ.head (cc))
     (λ t. Memᴰ.tail (found_in rs pnu r (rw t at e)))
 
-pub found_row : (pnu : ℕ) (r : Row) → find_of pnu ≡ At r → Memᴰ r rows
+pub found_row : (pnu : ℕ) (r : Row) → find_of pnu ≡ Some r → Memᴰ r rows
 unfolding find_of
 found_row pnu r e = found_in rows pnu r e
 

@@ -1,4 +1,5 @@
 -- The table is sorted, so a search may halve it: for a number below that of row k the rows before k say all, for another those from k on.
+use Rattle.std.specs.Prelude.{Some, None}
 use mathlib.Core.Path.{◌≡◌, refl, sym, ap, ◌∙◌}
 use mathlib.Core.Bool.{Bool, true, ◌&&◌, cond, and-eq-true_iff}
 use mathlib.Core.List.{List, [], ◌∷◌}
@@ -8,7 +9,6 @@ use lib.Dec.{eqb, ltb}
 use lib.ListN.{length, get_or, take, drop}
 use borrow.Author.Tests.{ltb-true, ne_eqb}
 use Rattle.catalogue.specs.declared.Row.{Row}
-use Rattle.catalogue.specs.declared.Found.TheVariants.{At, Nothing}
 use Rattle.catalogue.specs.Table.{rows, no_row, find_in}
 use Rattle.catalogue.specs.Element.{every_row}
 
@@ -45,7 +45,7 @@ abbrev Others : List Row → ℕ → Type 0
 Others [] pnu = Unit {0}
 Others (r ∷ rs) pnu = (pnu ≡ r.pnu → ⊥) × Others rs pnu
 
-pub none : (rs : List Row) (pnu : ℕ) → Others rs pnu → Nothing ≡ find_in rs pnu
+pub none : (rs : List Row) (pnu : ℕ) → Others rs pnu → None ≡ find_in rs pnu
 none [] pnu o = refl
 none (r ∷ rs) pnu o = none rs pnu o.1 ∙ other_row r rs pnu o.0
 
@@ -62,7 +62,7 @@ past_at n (suc k) (r ∷ rs) e h = past_at n k rs (every_cons (past n) r rs e).1
 pub lower_half : (k : ℕ) (rs : List Row) → sorted rs ≡ true → (pnu : ℕ) → pnu < (get_or rs k no_row).pnu → find_in (take k rs) pnu ≡ find_in rs pnu
 lower_half k [] s pnu h = absurd (omega arith)
 lower_half zero (r ∷ rs) s pnu h = none (r ∷ rs) pnu (λ q. omega arith, others_past r.pnu pnu (omega arith) rs (sorted_cons r rs s).0)
-lower_half (suc k) (r ∷ rs) s pnu h = ap (cond (eqb r.pnu pnu) (At r)) (lower_half k rs (sorted_cons r rs s).1 pnu h)
+lower_half (suc k) (r ∷ rs) s pnu h = ap (cond (eqb r.pnu pnu) (Some r)) (lower_half k rs (sorted_cons r rs s).1 pnu h)
 
 -- and one that is not
 pub upper_half : (k : ℕ) (rs : List Row) → sorted rs ≡ true → k < length rs → (pnu : ℕ) → (get_or rs k no_row).pnu ≤ pnu → find_in (drop k rs) pnu ≡ find_in rs pnu

@@ -1,11 +1,9 @@
 -- Document 01, "Parameters of each axis": the table, row by row, and where the elements of a row stand in a part.
-use Rattle.std.specs.Prelude.{Bool, true, false, cond, List, [], ◌∷◌, ℕ, ◌+◌, ◌*◌, eqb, ℤ, pos, negsuc, get_or}
+use Rattle.std.specs.Prelude.{Bool, true, false, cond, List, [], ◌∷◌, ℕ, ◌+◌, ◌*◌, eqb, ℤ, pos, negsuc, get_or, Option, Some, None}
 use Rattle.drive.specs.Faults.{buffer_codes}
 use Rattle.catalogue.specs.declared.Kind.{Kind}
 use Rattle.catalogue.specs.declared.Kind.TheVariants.{U8, U16, I16, I32}
 use Rattle.catalogue.specs.declared.Row.{Row}
-use Rattle.catalogue.specs.declared.Found.{Found}
-use Rattle.catalogue.specs.declared.Found.TheVariants.{At, Nothing}
 
 -- bytes of an element, by its type
 abbrev pub element_size : Kind → ℕ
@@ -110,17 +108,17 @@ unfoldable pub row_at : ℕ → Row
 row_at i = get_or rows i no_row
 
 -- "unless the PNU is found, 0x00"
-abbrev pub find_in : List Row → ℕ → Found
-find_in [] pnu = Nothing
-find_in (r ∷ rs) pnu = cond (eqb r.pnu pnu) (At r) (find_in rs pnu)
+abbrev pub find_in : List Row → ℕ → Option Row
+find_in [] pnu = None
+find_in (r ∷ rs) pnu = cond (eqb r.pnu pnu) (Some r) (find_in rs pnu)
 
-unfoldable pub find_of : ℕ → Found
+unfoldable pub find_of : ℕ → Option Row
 find_of pnu = find_in rows pnu
 
 -- where the first element of a parameter stands
-abbrev pub offset_in : Found → ℕ
-offset_in (At r) = r.offset
-offset_in Nothing = 0
+abbrev pub offset_in : Option Row → ℕ
+offset_in (Some r) = r.offset
+offset_in None = 0
 
 unfoldable pub offset_of : ℕ → ℕ
 offset_of pnu = offset_in (find_of pnu)

@@ -30,12 +30,6 @@ pub struct Row {
     pub offset: u16,
 }
 
-#[derive(Clone, Copy)]
-pub enum Found {
-    At(Row),
-    Nothing,
-}
-
 // Every fault situation.
 const COUNT_947: u16 = drive::faults::BUFFER as u16;
 
@@ -310,97 +304,97 @@ pub fn row_at(i: usize) -> Row
 
 // What the first quarter of the table, from 930 on, has of a parameter number. Each quarter is written out, with the upper of two rows
 // first: by a loop, by one function that is handed the rows, or with the lower row first, some numbers cost more than by a walk.
-fn first_quarter(pnu: u16) -> Found
+fn first_quarter(pnu: u16) -> Option<Row>
     ensures { result ≡ find_in (take 3 rows) pnu }
 {
     if pnu < 944 {
         if pnu == 930 {
-            Found::At(ROW_930)
+            Some(ROW_930)
         } else {
-            Found::Nothing
+            None
         }
     } else {
         if pnu == 947 {
-            Found::At(ROW_947)
+            Some(ROW_947)
         } else if pnu == 944 {
-            Found::At(ROW_944)
+            Some(ROW_944)
         } else {
-            Found::Nothing
+            None
         }
     }
 }
 
 // From 965 on.
-fn second_quarter(pnu: u16) -> Found
+fn second_quarter(pnu: u16) -> Option<Row>
     ensures { result ≡ find_in (take 4 (drop 3 rows)) pnu }
 {
     if pnu < 9901 {
         if pnu == 9900 {
-            Found::At(ROW_9900)
+            Some(ROW_9900)
         } else if pnu == 965 {
-            Found::At(ROW_965)
+            Some(ROW_965)
         } else {
-            Found::Nothing
+            None
         }
     } else {
         if pnu == 10100 {
-            Found::At(ROW_10100)
+            Some(ROW_10100)
         } else if pnu == 9901 {
-            Found::At(ROW_9901)
+            Some(ROW_9901)
         } else {
-            Found::Nothing
+            None
         }
     }
 }
 
 // From 10101 on.
-fn third_quarter(pnu: u16) -> Found
+fn third_quarter(pnu: u16) -> Option<Row>
     ensures { result ≡ find_in (take 4 (drop 7 rows)) pnu }
 {
     if pnu < 10103 {
         if pnu == 10102 {
-            Found::At(ROW_10102)
+            Some(ROW_10102)
         } else if pnu == 10101 {
-            Found::At(ROW_10101)
+            Some(ROW_10101)
         } else {
-            Found::Nothing
+            None
         }
     } else {
         if pnu == 10111 {
-            Found::At(ROW_10111)
+            Some(ROW_10111)
         } else if pnu == 10103 {
-            Found::At(ROW_10103)
+            Some(ROW_10103)
         } else {
-            Found::Nothing
+            None
         }
     }
 }
 
 // From 30001 on.
-fn last_quarter(pnu: u16) -> Found
+fn last_quarter(pnu: u16) -> Option<Row>
     ensures { result ≡ find_in (drop 11 rows) pnu }
 {
     if pnu < 30003 {
         if pnu == 30002 {
-            Found::At(ROW_30002)
+            Some(ROW_30002)
         } else if pnu == 30001 {
-            Found::At(ROW_30001)
+            Some(ROW_30001)
         } else {
-            Found::Nothing
+            None
         }
     } else {
         if pnu == 30004 {
-            Found::At(ROW_30004)
+            Some(ROW_30004)
         } else if pnu == 30003 {
-            Found::At(ROW_30003)
+            Some(ROW_30003)
         } else {
-            Found::Nothing
+            None
         }
     }
 }
 
 // The row of a parameter number, by halving the sorted table.
-pub fn find(pnu: u16) -> Found
+pub fn find(pnu: u16) -> Option<Row>
     ensures { result ≡ find_of pnu }
 {
     if pnu < 10101 {

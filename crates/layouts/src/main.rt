@@ -3,9 +3,9 @@
 
 ghost use Rattle.std.specs.Prelude.{◌≤◌};
 
-use blocks::reader::{Address, FIRST, Step, address_at};
+use blocks::reader::{Address, FIRST, address_at};
 use blocks::writer::{block_size, put_block, put_empty, put_error, put_header};
-use blocks::{BlockAt, Header};
+use blocks::Header;
 use std::io;
 
 // More bytes than a block has.
@@ -439,8 +439,7 @@ fn print_address(rt: &impl Print, a: Address) -> io::Result<()> {
 fn print_addresses(rt: &impl Print, block: &[u8]) -> io::Result<usize> {
     let mut at = FIRST;
     for _ in 0..block.len() {
-        let s = address_at(block, at);
-        let Step::Next(a, next) = s else {
+        let Some((a, next)) = address_at(block, at) else {
             return Ok(at);
         };
         print_address(rt, a)?;
@@ -461,8 +460,7 @@ fn print_values(rt: &impl Print, block: &[u8], at: usize, n: u8) -> io::Result<(
 fn print_blocks(rt: &impl Print, block: &[u8], from: usize, n: u8) -> io::Result<()> {
     let mut at = from;
     for _ in 0..n {
-        let b = blocks::block_at(block, at);
-        let BlockAt::Stands(h) = b else {
+        let Some(h) = blocks::block_at(block, at) else {
             print(rt, "no block\n")?;
             return Ok(());
         };

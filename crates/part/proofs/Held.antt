@@ -1,4 +1,5 @@
 -- A part that a response was stored in: it waits there as it was given, and nothing else moves.
+use Rattle.std.specs.Prelude.{Some}
 use mathlib.Core.Path.{◌≡◌, refl, sym, ◌∙◌, ap}
 use mathlib.Core.Bool.{Bool, true, ◌&&◌, ◌||◌, or-true, and-eq-true_iff}
 use mathlib.Core.List.{List, [], ◌∷◌, ◌++◌}
@@ -17,7 +18,6 @@ use Rattle.blocks.specs.Response.{response}
 use Rattle.blocks.specs.Place.{header_of}
 use Rattle.drive.specs.Faults.{buffer_codes, zeros}
 use Rattle.catalogue.specs.declared.Row.{Row}
-use Rattle.catalogue.specs.declared.Found.TheVariants.{At}
 use Rattle.catalogue.specs.Table.{rows, find_of, offset_of, parameter_bytes}
 use Rattle.catalogue.specs.Element.{element_of, every_row}
 use Rattle.catalogue.proofs.Rows.{every_row_lem}
@@ -58,7 +58,7 @@ module _ (bs p : List ℕ) where
   all_before = refl
 
   -- every parameter is as it was
-  pub response_element : (pnu : ℕ) (r : Row) (i : ℕ) → find_of pnu ≡ At r → i < r.count → element_of r i (with_response bs p) ≡ element_of r i p
+  pub response_element : (pnu : ℕ) (r : Row) (i : ℕ) → find_of pnu ≡ Some r → i < r.count → element_of r i (with_response bs p) ≡ element_of r i p
   response_element pnu r i f h = element_same before p (with_response bs p) response_apart r i (row_passes (row_safe before) pnu r all_before f) h
 
   -- and so the same version is taken

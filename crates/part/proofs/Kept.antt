@@ -1,4 +1,5 @@
 -- A part some of whose bytes are changed: the elements and the tests of the rows that stand apart are as they were.
+use Rattle.std.specs.Prelude.{Some}
 use mathlib.Core.Path.{◌≡◌, refl, ◌∙◌, ap}
 use mathlib.Core.Bool.{Bool, true, false, cond, not, ◌&&◌, ◌||◌, and-eq-true_iff}
 use mathlib.Core.List.{List, [], ◌∷◌}
@@ -8,23 +9,22 @@ use lib.Dec.{eqb}
 use borrow.Table.Steps.{cases}
 use Rattle.codes.specs.Number.{number_at}
 use Rattle.catalogue.specs.declared.Row.{Row}
-use Rattle.catalogue.specs.declared.Found.TheVariants.{At}
 use Rattle.catalogue.specs.Table.{rows, element_size, find_in, find_of}
 use Rattle.catalogue.proofs.Every.{every_same, every_at}
 use Rattle.catalogue.specs.Element.{inside, element_place, element_of, fresh_of, every_element, every_row}
 use Rattle.part.specs.WellFormed.{limits_fit, fixed_fit}
 
 -- a test that every row of the table passes
-pub row_passes : (ok : Row → Bool) (pnu : ℕ) (r : Row) → every_row ok rows ≡ true → find_of pnu ≡ At r → ok r ≡ true
+pub row_passes : (ok : Row → Bool) (pnu : ℕ) (r : Row) → every_row ok rows ≡ true → find_of pnu ≡ Some r → ok r ≡ true
 unfolding find_of
 row_passes ok pnu r = go rows
   where
-    go : (rs : List Row) → every_row ok rs ≡ true → find_in rs pnu ≡ At r → ok r ≡ true
+    go : (rs : List Row) → every_row ok rs ≡ true → find_in rs pnu ≡ Some r → ok r ≡ true
     go [] e f = absurd (let z : ◌≡◌ {A = ℕ} 0 1 = cc in omega arith)
     go (s ∷ rs) e f =
         let b = (and-eq-true_iff (ok s) (every_row ok rs)).0 e in
         cases (eqb s.pnu pnu)
-        (λ t. let same : At s ≡ At r = rw t at f in let q : s ≡ r = cc in rw (← q) b.0)
+        (λ t. let same : Some s ≡ Some r = rw t at f in let q : s ≡ r = cc in rw (← q) b.0)
         (λ t. go rs b.1 (rw t at f))
 
 pub same_asked : (asked : Bool) (ok also : ℕ → Bool) (n : ℕ) → (asked ≡ true → (i : ℕ) → i < n → ok i ≡ also i) → cond asked (every_element ok n) true ≡ cond asked (every_element also n) true

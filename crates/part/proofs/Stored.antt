@@ -1,4 +1,5 @@
 -- What is stored of a drive record is loaded again, and no other byte moves.
+use Rattle.std.specs.Prelude.{Some}
 use mathlib.Core.Path.{◌≡◌, refl, sym, ◌∙◌, ap}
 use mathlib.Core.Bool.{Bool, true, false, ◌||◌}
 use mathlib.Core.List.{List, [], ◌∷◌}
@@ -20,7 +21,6 @@ use Rattle.drive.specs.Faults.{buffer_codes}
 use Rattle.drive.specs.Motion.{motion_of}
 use Rattle.catalogue.specs.Table.{rows, find_of, offset_of, parameter_bytes}
 use Rattle.catalogue.specs.declared.Row.{Row}
-use Rattle.catalogue.specs.declared.Found.TheVariants.{At}
 use Rattle.catalogue.specs.Element.{element_of, every_row}
 use Rattle.part.specs.Layout.{state_at, effective_at, length_at, part_size}
 use Rattle.part.specs.Record.{number_of, state_of, words_at, faults_of, drive_of, put_drive}
@@ -95,7 +95,7 @@ module _ (d : Drive) (p : List ℕ) (whole : length d.faults.buffer ≡ buffer_c
   others_safe = refl
 
   -- every other parameter is as it was
-  pub drive_element : (pnu : ℕ) (r : Row) (i : ℕ) → find_of pnu ≡ At r → of_record r.pnu ≡ false → i < r.count → element_of r i (put_drive d p) ≡ element_of r i p
+  pub drive_element : (pnu : ℕ) (r : Row) (i : ℕ) → find_of pnu ≡ Some r → of_record r.pnu ≡ false → i < r.count → element_of r i (put_drive d p) ≡ element_of r i p
   drive_element pnu r i f other h =
       element_same safe p (put_drive d p) (drive_apart d p whole) r i
       (either (of_record r.pnu) (row_safe safe r) other (row_passes (λ s. of_record s.pnu || row_safe safe s) pnu r others_safe f)) h

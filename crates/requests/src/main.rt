@@ -5,7 +5,7 @@
 ghost use Rattle.std.specs.Prelude.{◌≤◌};
 
 use blocks::reader::{Address, FIRST};
-use blocks::{BlockAt, Header};
+use blocks::Header;
 use std::io;
 
 const AXIS: u8 = 1;
@@ -140,8 +140,7 @@ fn change(
     let mut block = headed(2, 1);
     put_address(&mut block, FIRST, a);
     blocks::writer::put_block(&mut block, FIRST + 6, format, values);
-    let b = blocks::block_at(&block, FIRST + 6);
-    let BlockAt::Stands(h) = b else {
+    let Some(h) = blocks::block_at(&block, FIRST + 6) else {
         return Ok(part);
     };
     work(rt, label, part, first(&block, h.next))

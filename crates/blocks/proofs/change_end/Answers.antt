@@ -9,7 +9,7 @@ pub loop-left-preserved : goal.loop-left-preserved
 loop-left-preserved c =
     let a = c.args in
     let l = c.loop-left in
-    walk_goes_on change_block_fits a.s.now a.from a.n l.at l.left l.error l.invariant c.loop-left-test.true c.in-Stands.h c.either-error.result (sym c.block_at-b.ensures ∙ c.in-Stands.is) c.either-error.ensures
+    walk_goes_on change_block_fits a.s.now a.from a.n l.at l.left l.error l.invariant c.loop-left-test.true c.in-Some.h c.either-error.result (sym c.block_at.ensures ∙ c.in-Some.is) c.either-error.ensures
 
 pub returns : goal.returns
 returns c =

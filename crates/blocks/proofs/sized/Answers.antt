@@ -1,5 +1,7 @@
 -- Each test that fails says why no block stands at the place, by whatever rule.
 -- the bytes of the values and what fills them, as the code has them
+use Rattle.std.specs.Prelude.{Option, Some}
+use Rattle.blocks.specs.declared.Head.{Head}
 use mathlib.Core.Bool.{◌||◌}
 use mathlib.Core.List.{List}
 use mathlib.Core.Path.{◌≡◌, sym, ◌∙◌, ap₂}
@@ -8,8 +10,6 @@ use lib.Dec.{eqb}
 use lib.ListN.{get_or}
 use native.Mathlib.Omega.{arith}
 use Rattle.codes.proofs.Fixed.{Bytes, small}
-use Rattle.blocks.specs.declared.BlockAt.{BlockAt}
-use Rattle.blocks.specs.declared.BlockAt.TheVariants.{Stands}
 use Rattle.blocks.specs.Block.{value_size, fill_size}
 use Rattle.blocks.proofs.Blocks.{size_small, fill_even, block_short, block_unfilled, block_long}
 use Rattle.blocks.proofs.sized.Goals as goal
@@ -27,8 +27,8 @@ module _ (s : List ℕ) (at bare each : ℕ) (sized : each ≡ value_size (get_o
   tested : eqb (fill_size f n) 0 || eqb (get_or s (at + 2 + n * value_size f) 0) 0 ≡ eqb (bare % 2) 0 || eqb (get_or s (at + 2 + bare) 0) 0
   tested = let e : fill_size f n ≡ bare % 2 = omega (arith, all, fill_even f n) in ap₂ (λ (k x : ℕ). eqb k 0 || eqb (get_or s (at + 2 + x) 0) 0) e (sym all)
 
-  head_is : ◌≡◌ {A = BlockAt} (Stands (record { format = f; count = n; size = each; next = at + 2 + (bare + bare % 2) })) (Stands (record { format = f; count = n; size = value_size f; next = at + 2 + (n * value_size f + fill_size f n) }))
-  head_is = ap₂ (λ (w x : ℕ). Stands (record { format = f; count = n; size = w; next = at + 2 + x })) sized filled-up
+  head_is : ◌≡◌ {A = Option Head} (Some (record { format = f; count = n; size = each; next = at + 2 + (bare + bare % 2) })) (Some (record { format = f; count = n; size = value_size f; next = at + 2 + (n * value_size f + fill_size f n) }))
+  head_is = ap₂ (λ (w x : ℕ). Some (record { format = f; count = n; size = w; next = at + 2 + x })) sized filled-up
 
 pub overflow_mul-bare : goal.overflow_mul-bare
 overflow_mul-bare c =

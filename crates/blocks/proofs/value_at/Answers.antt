@@ -8,34 +8,34 @@ use Rattle.blocks.proofs.value_at.Goals as goal
 pub returns-in_default : goal.returns-in_default
 returns-in_default c =
     let a = c.args in
-    value_nowhere a.s.now a.at a.j (sym c.block_at-b.ensures ∙ c.in_default.is)
+    value_nowhere a.s.now a.at a.j (sym c.block_at.ensures ∙ c.in_default.is)
 
 pub overflow_add-at : goal.overflow_add-at
 overflow_add-at c =
     let a = c.args in
-    let st = block_stands change_block_fits a.s.now a.at c.in-Stands.h (sym c.block_at-b.ensures ∙ c.in-Stands.is) in
-    omega (arith, value_room a.s.now a.at a.j c.in-Stands.h st (omega arith))
+    let st = block_stands change_block_fits a.s.now a.at c.in-Some.h (sym c.block_at.ensures ∙ c.in-Some.is) in
+    omega (arith, value_room a.s.now a.at a.j c.in-Some.h st (omega arith))
 
 pub overflow_mul-j : goal.overflow_mul-j
 overflow_mul-j c =
     let a = c.args in
-    let st = block_stands change_block_fits a.s.now a.at c.in-Stands.h (sym c.block_at-b.ensures ∙ c.in-Stands.is) in
-    omega (arith, value_room a.s.now a.at a.j c.in-Stands.h st (omega arith))
+    let st = block_stands change_block_fits a.s.now a.at c.in-Some.h (sym c.block_at.ensures ∙ c.in-Some.is) in
+    omega (arith, value_room a.s.now a.at a.j c.in-Some.h st (omega arith))
 
 pub overflow_add-at-then-j-wide : goal.overflow_add-at-then-j-wide
 overflow_add-at-then-j-wide c =
     let a = c.args in
-    let st = block_stands change_block_fits a.s.now a.at c.in-Stands.h (sym c.block_at-b.ensures ∙ c.in-Stands.is) in
-    omega (arith, value_room a.s.now a.at a.j c.in-Stands.h st (omega arith))
+    let st = block_stands change_block_fits a.s.now a.at c.in-Some.h (sym c.block_at.ensures ∙ c.in-Some.is) in
+    omega (arith, value_room a.s.now a.at a.j c.in-Some.h st (omega arith))
 
 pub returns-then-j-wide : goal.returns-then-j-wide
 returns-then-j-wide c =
     let a = c.args in
-    let st = block_stands change_block_fits a.s.now a.at c.in-Stands.h (sym c.block_at-b.ensures ∙ c.in-Stands.is) in
-    c.number_at.ensures ∙ value_here a.s.now a.at a.j c.in-Stands.h st (omega arith)
+    let st = block_stands change_block_fits a.s.now a.at c.in-Some.h (sym c.block_at.ensures ∙ c.in-Some.is) in
+    c.number_at.ensures ∙ value_here a.s.now a.at a.j c.in-Some.h st (omega arith)
 
 pub returns-else-j-wide : goal.returns-else-j-wide
 returns-else-j-wide c =
     let a = c.args in
-    let st = block_stands change_block_fits a.s.now a.at c.in-Stands.h (sym c.block_at-b.ensures ∙ c.in-Stands.is) in
-    value_past a.s.now a.at a.j c.in-Stands.h st (omega arith)
+    let st = block_stands change_block_fits a.s.now a.at c.in-Some.h (sym c.block_at.ensures ∙ c.in-Some.is) in
+    value_past a.s.now a.at a.j c.in-Some.h st (omega arith)

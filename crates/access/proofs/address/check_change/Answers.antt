@@ -3,8 +3,8 @@ use Rattle.access.proofs.Checks.{check_nothing, check_row}
 use Rattle.access.proofs.address.check_change.Goals as goal
 
 pub returns-in_default : goal.returns-in_default
-returns-in_default c = check_nothing c.args.a _ c.find-f.ensures c.in_default.is
+returns-in_default c = check_nothing c.args.a _ c.find.ensures c.in_default.is
 
 pub returns : goal.returns
 returns c =
-    check_row c.args.a _ c.find-f.ensures c.in-At.r _ c.in-At.is c.of_row.ensures
+    check_row c.args.a _ c.find.ensures c.in-Some.r _ c.in-Some.is c.of_row.ensures

@@ -12,7 +12,7 @@ use mathlib.Core.Bool.{Bool, true, ◌||◌}
 pub returns-in_default : goal.returns-in_default
 returns-in_default c =
     let l = c.loop-at in
-    absurd (walk_end c.args.block.now l.at l.invariant.0 (omega (arith, l.invariant.1.0)) l.invariant.1.1.whole (sym c.address_at-s.ensures ∙ c.in_default.is))
+    absurd (walk_end c.args.block.now l.at l.invariant.0 (omega (arith, l.invariant.1.0)) l.invariant.1.1.whole (sym c.address_at.ensures ∙ c.in_default.is))
 
 pub head_here-h-requires : goal.head_here-h-requires
 head_here-h-requires c =
@@ -23,7 +23,7 @@ pub loop-at-smaller : goal.loop-at-smaller
 loop-at-smaller c =
     let a = c.args in
     let l = c.loop-at in
-    omega (arith, step_six a.block.now l.at c.in-Next.a c.in-Next.next (sym c.address_at-s.ensures ∙ c.in-Next.is))
+    omega (arith, step_six a.block.now l.at c.in-Some.a c.in-Some.next (sym c.address_at.ensures ∙ c.in-Some.is))
 
 pub loop-at-preserved : goal.loop-at-preserved
 loop-at-preserved c =
@@ -34,12 +34,12 @@ loop-at-preserved c =
     let w = c.put_answer-w in
     let left = l.invariant.0 in
     let more : 0 < left = omega (arith, l.invariant.1.0, c.loop-at-test.true) in
-    let step = sym c.address_at-s.ensures ∙ c.in-Next.is in
-    let turned : (e : Bool) → e ≡ (l.all.error || w.result.error) → Changing a.block.now a.n a.part.now a.out.now d.new.part w.new.out c.in-Next.next h.result.next (left - 1) (record { next = w.result.next; error = e; stored = l.all.stored + d.result.stored }) =
-    λ e ee. turn a.block.now a.n a.part.now a.out.now l.part l.out l.at l.from l.all left c.in-Next.a c.in-Next.next h.result d.new.part w.new.out d.result w.result e more step h.ensures d.ensures d.auto.part w.ensures ee l.invariant.1.1 in (
+    let step = sym c.address_at.ensures ∙ c.in-Some.is in
+    let turned : (e : Bool) → e ≡ (l.all.error || w.result.error) → Changing a.block.now a.n a.part.now a.out.now d.new.part w.new.out c.in-Some.next h.result.next (left - 1) (record { next = w.result.next; error = e; stored = l.all.stored + d.result.stored }) =
+    λ e ee. turn a.block.now a.n a.part.now a.out.now l.part l.out l.at l.from l.all left c.in-Some.a c.in-Some.next h.result d.new.part w.new.out d.result w.result e more step h.ensures d.ensures d.auto.part w.ensures ee l.invariant.1.1 in (
       left - 1,
       (
-        omega (arith, more, l.invariant.1.0, step_six a.block.now l.at c.in-Next.a c.in-Next.next step),
+        omega (arith, more, l.invariant.1.0, step_six a.block.now l.at c.in-Some.a c.in-Some.next step),
         elim c.if-w.branch [
           | then-w x ↦ rw x.all-is (turned true (error_now l.all.error w.result.error x.if-w.true))
           | else-w x ↦ rw x.all-is (turned l.all.error (error_before l.all.error w.result.error x.if-w.false))

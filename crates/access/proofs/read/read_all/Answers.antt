@@ -12,8 +12,8 @@ loop-left-preserved c =
     let a = c.args in
     let l = c.loop-left in
     let o = c.read_one-w in
-    subst (λ (e : Bool). Reading a.part.now a.block.now a.n a.out.now o.new.out c.in-Next.next o.result.next e (l.left - 1)) (sym c.either-error.ensures)
-    (turn a.part.now a.block.now a.n a.out.now l.out l.at l.used l.error l.left c.in-Next.a c.in-Next.next o.new.out o.result c.loop-left-test.true (sym c.address_at-s.ensures ∙ c.in-Next.is) o.ensures l.invariant)
+    subst (λ (e : Bool). Reading a.part.now a.block.now a.n a.out.now o.new.out c.in-Some.next o.result.next e (l.left - 1)) (sym c.either-error.ensures)
+    (turn a.part.now a.block.now a.n a.out.now l.out l.at l.used l.error l.left c.in-Some.a c.in-Some.next o.new.out o.result c.loop-left-test.true (sym c.address_at.ensures ∙ c.in-Some.is) o.ensures l.invariant)
 
 pub returns : goal.returns
 returns c =
