@@ -1,6 +1,6 @@
 -- The loop over the addresses and blocks of a change: what is left to do from where it stands is what was to be done at first.
 use Rattle.std.proofs.lemmas.Option.{same_Some}
-use Rattle.std.specs.Prelude.{Option, Some, None}
+use Rattle.std.specs.Prelude.{Option, Some, None, Result}
 use mathlib.Core.Path.{◌≡◌, refl, sym, ◌∙◌, ap}
 use mathlib.Core.Bool.{Bool, true, false, cond, ◌||◌}
 use mathlib.Core.List.{List, [], ◌∷◌}
@@ -21,10 +21,10 @@ use Rattle.blocks.specs.declared.Head.{Head}
 use Rattle.blocks.specs.declared.reader.Address.{Address}
 use Rattle.blocks.proofs.Blocks.{block_stands, block_falls}
 use Rattle.access.specs.declared.reply.Written.{Written}
-use Rattle.access.specs.declared.change.Done.{Done}
+use Rattle.access.specs.declared.error.ParameterError.{ParameterError}
 use Rattle.access.specs.declared.change.Changes.{Changes}
 use Rattle.access.specs.Change.{ChangedAll, follow, change_one, change_all}
-use Rattle.access.specs.Walk.{Wrote, block_in, blocks_in, answer_in, Did, DidAll}
+use Rattle.access.specs.Walk.{Wrote, block_in, blocks_in, answer_in, counted, Did, DidAll}
 use Rattle.access.proofs.Filled.{sofar, one, all, one_wrote, all_wrote}
 use Rattle.access.proofs.Reading.{walk_next}
 use Rattle.access.proofs.Answering.{answer_short, answers_short}
@@ -92,9 +92,9 @@ pub record Changing (s : List ℕ) (n : ℕ) (p₀ out₀ p out : List ℕ) (at 
   pub counts : so.stored + (ahead s left at from p).stored ≡ (ahead s n 4 (4 + n * 6) p₀).stored
 
 module _ (s : List ℕ) (n : ℕ) (p₀ out₀ p out : List ℕ) (at from : ℕ) (so : Changes) where
-  module _ (left : ℕ) (a : Address) (next : ℕ) (h : Head) (q m : List ℕ) (d : Done) (w : Written) (error : Bool) where
+  module _ (left : ℕ) (a : Address) (next : ℕ) (h : Head) (q m : List ℕ) (d : Result ℕ ParameterError) (w : Written) (error : Bool) where
     abbrev after : Changes
-    after = record { next = w.next; error = error; stored = so.stored + d.stored }
+    after = record { next = w.next; error = error; stored = so.stored + counted d }
 
     next_turn : step_at s at ≡ Some (a, next) → block_at s from ≡ Some h → Did (change_one a (block_in s from) p) q d → length q ≡ length p → Wrote out m so.next (answer_in d) w → error ≡ (so.error || w.error) → Changing s n p₀ out₀ p out at from (suc left) so → Changing s n p₀ out₀ q m next h.next left after
     next_turn e st did kept o ee c =
@@ -119,7 +119,7 @@ module _ (s : List ℕ) (n : ℕ) (p₀ out₀ p out : List ℕ) (at from : ℕ)
           counts = omega (arith, did.stored, ap (λ (y : ChangedAll). y.stored) turned, c.counts);
         }
 
-  pub turn : (left : ℕ) (a : Address) (next : ℕ) (h : Head) (q m : List ℕ) (d : Done) (w : Written) (error : Bool) → 0 < left → step_at s at ≡ Some (a, next) → block_at s from ≡ Some h → Did (change_one a (block_in s from) p) q d → length q ≡ length p → Wrote out m so.next (answer_in d) w → error ≡ (so.error || w.error) → Changing s n p₀ out₀ p out at from left so → Changing s n p₀ out₀ q m next h.next (left - 1) (record { next = w.next; error = error; stored = so.stored + d.stored })
+  pub turn : (left : ℕ) (a : Address) (next : ℕ) (h : Head) (q m : List ℕ) (d : Result ℕ ParameterError) (w : Written) (error : Bool) → 0 < left → step_at s at ≡ Some (a, next) → block_at s from ≡ Some h → Did (change_one a (block_in s from) p) q d → length q ≡ length p → Wrote out m so.next (answer_in d) w → error ≡ (so.error || w.error) → Changing s n p₀ out₀ p out at from left so → Changing s n p₀ out₀ q m next h.next (left - 1) (record { next = w.next; error = error; stored = so.stored + counted d })
   turn zero a next h q m d w error z e st did kept o ee c = absurd (omega arith)
   turn (suc left) a next h q m d w error z e st did kept o ee c = rw sub-one (next_turn left a next h q m d w error e st did kept o ee c)
 

@@ -117,7 +117,7 @@ abbrev Writes : (Row → ℕ → Type 0) → Row → ℕ → Type 0
 Writes May q j = (q.writable ≡ true) × May q j
 
 change_kept : (a : Address) (b : Block) → BlockFits change_block_fits b → (p : List ℕ) → Kept (Writes (StoredBy a (change_one a b p))) p (change_one a b p).part
-change_kept a b g p = change_cases a b p (λ c. Kept (Writes (StoredBy a c)) p c.part) (λ e small. kept_none p) stores
+change_kept a b g p = change_cases a b p (λ c. Kept (Writes (StoredBy a c)) p c.part) (λ e. kept_none p) stores
   where
     stores : (s : Storable a b) → Named a s.row s.number → let c = success s.row a.subindex b.values p in Kept (Writes (StoredBy a c)) p c.part
     stores s named =
@@ -156,7 +156,7 @@ all_beyond [] sent p = refl
 all_beyond (a ∷ more) [] p = refl
 all_beyond (a ∷ more) (b ∷ sent) p =
     all_beyond more sent (change_one a b p).part
-    ∙ change_cases a b p (λ c. drop parameter_bytes c.part ≡ drop parameter_bytes p) (λ e small. refl)
+    ∙ change_cases a b p (λ c. drop parameter_bytes c.part ≡ drop parameter_bytes p) (λ e. refl)
     (λ s named. store_beyond s.row named.row a.subindex b.values p (omega (arith, s.count, named.room)))
 
 pub versions_follow : VersionsFollow

@@ -6,6 +6,7 @@ ghost use Rattle.part.specs.Layout.{with_response};
 ghost use Rattle.access.specs.Address.{error_block};
 ghost use Rattle.access.specs.Walk.{Wrote};
 
+use super::ParameterError;
 use blocks::Header;
 
 // Where the next block goes, and whether an error was written.
@@ -16,11 +17,11 @@ pub struct Written {
 }
 
 // An error block: `44 01` and the error word.
-pub(crate) fn put_failed(out: &mut [u8], at: usize, error: u16) -> Written
+pub(crate) fn put_failed(out: &mut [u8], at: usize, error: ParameterError) -> Written
     requires { at ≤ block_limit }
     ensures { Wrote out.old out.new at (error_block error) result }
 {
-    blocks::writer::put_error(out, at, error);
+    blocks::writer::put_error(out, at, u16::from(error));
     Written {
         next: at + 4,
         error: true,

@@ -53,11 +53,14 @@ fn waiting<'a>(part: &'a [u8]) -> &'a [u8] {
 
 // Works a block, prints what it comes to, and fetches the response.
 fn work(rt: &impl Print, label: &str, mut part: Part, block: &[u8]) -> io::Result<Part> {
-    let r = access::work(&mut part, AXIS, block);
+    let (number, stored) = match access::work(&mut part, AXIS, block) {
+        Ok(stored) => (0, stored),
+        Err(refused) => (u8::from(refused), 0),
+    };
     print(rt, label)?;
     print_number(rt, " (", block.len() as u64)?;
-    print_number(rt, " bytes): number ", wide(r.number))?;
-    print_number(rt, ", stored ", r.stored as u64)?;
+    print_number(rt, " bytes): number ", wide(number))?;
+    print_number(rt, ", stored ", stored as u64)?;
     print_number(rt, ", waiting ", wide(part::waiting_length(&part)))?;
     print(rt, ":")?;
     print_bytes(rt, waiting(&part))?;

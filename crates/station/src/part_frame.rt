@@ -15,15 +15,16 @@ fn write_on(part: &mut [u8], k: u8, f: &[u8], reply: &mut [u8]) -> Framed
     ensures reply_after { reply.new ≡ put reply.old 0 (reply_of f.now part.old (outcome k f.now part.old).number) }
     ensures part_after { part.new ≡ (outcome k f.now part.old).part }
 {
-    let w = access::work(part, k, &f[judge::HEAD..]);
-    if w.number != 0 {
-        return reply::refuse(f, reply, w.number);
-    }
-    reply::put_four(reply, judge::WRITE, 0, judge::INDEX, f[3]);
-    Framed {
-        length: 4,
-        stored: w.stored,
-        number: 0,
+    match access::work(part, k, &f[judge::HEAD..]) {
+        Err(refused) => reply::refuse(f, reply, u8::from(refused)),
+        Ok(stored) => {
+            reply::put_four(reply, judge::WRITE, 0, judge::INDEX, f[3]);
+            Framed {
+                length: 4,
+                stored,
+                number: 0,
+            }
+        }
     }
 }
 
