@@ -25,7 +25,10 @@ pub extern "C" fn llinkhiro_fresh(station: &mut [u8]) -> u8
     ensures value { result ≡ fresh_number station.old }
     ensures station_after { station.new ≡ fresh_station station.old }
 {
-    station::fresh(station)
+    match station::fresh(station) {
+        Ok(()) => 0,
+        Err(refusal) => u8::from(refusal),
+    }
 }
 
 // A control cycle of an axis.

@@ -24,7 +24,7 @@ pub enum Job {
 // is read or written. What a record does to the station, its line and its counts are promised where it is worked, in `journal` and `season`.
 pub fn run(rt: &HostRuntime, job: Job) {
     let mut station = [0u8; station::STATION];
-    station::fresh(&mut station);
+    station::fresh(&mut station).unwrap();
     let mut input = [0u8; INPUT];
     let mut totals = [0u64; season::COUNTS];
     let mut out = [0u8; out::OUT];

@@ -3,26 +3,10 @@ ghost use Rattle.std.specs.Prelude.{false, ◌≡◌};
 ghost use Rattle.drive.specs.Motion.{moved_of};
 ghost use Rattle.part.specs.Record.{put_motion};
 ghost use Rattle.station.specs.Cycle.{input_of, refused_cycle, cycled, cycle_answer, cycle_part};
+ghost use Rattle.station.specs.Inner.{told};
 
-use super::{CycleDone, Cycled, Sent};
+use super::{CycleDone, Cycled, Refusal, Sent};
 use drive::{Input, Motion, N2, Output};
-
-// A refused cycle answers its number and zeros, and did nothing.
-pub(crate) fn refused_cycle(n: u8) -> CycleDone
-    ensures { result ≡ refused_cycle n }
-{
-    let told = Cycled {
-        rpm: 0,
-        status: 0,
-        state: 0,
-        number: n,
-    };
-    CycleDone {
-        told: told,
-        acknowledged: false,
-        entered: false,
-    }
-}
 
 // What a cycle is given, with the axis's parameters.
 fn input_of(part: &[u8], sent: Sent) -> Input
@@ -41,56 +25,50 @@ fn input_of(part: &[u8], sent: Sent) -> Input
     }
 }
 
-fn answered(a: Output) -> CycleDone
-    ensures { result ≡ cycled a }
+fn answered(output: Output) -> CycleDone
+    ensures { result ≡ cycled output }
 {
-    let s = a.state;
-    let v = a.speed;
     let told = Cycled {
-        rpm: v.0,
-        status: a.status,
-        state: part::number_of(s),
+        rpm: output.speed.0,
+        status: output.status,
+        state: part::number_of(output.state),
         number: 0,
     };
     CycleDone {
-        told: told,
-        acknowledged: a.acknowledged,
-        entered: a.entered,
+        told,
+        acknowledged: output.acknowledged,
+        entered: output.entered,
     }
 }
 
 // A cycle that leaves the faults as they are, and so neither loads nor stores them. `faulted`: situation 0 is not empty.
-fn quiet_cycle(part: &mut [u8], m: Motion, faulted: bool, i: Input) -> CycleDone
-    ensures value { result ≡ cycled (moved_of m faulted false i).output }
-    ensures part_after { part.new ≡ put_motion (moved_of m faulted false i).motion part.old }
+fn quiet_cycle(part: &mut [u8], motion: Motion, faulted: bool, input: Input) -> CycleDone
+    ensures value { result ≡ cycled (moved_of motion faulted false input).output }
+    ensures part_after { part.new ≡ put_motion (moved_of motion faulted false input).motion part.old }
 {
-    let e = drive::move_on(m, faulted, false, i);
-    let after = e.motion;
-    let a = e.output;
-    part::store_motion(part, after);
-    answered(a)
+    let moved = drive::move_on(motion, faulted, false, input);
+    part::store_motion(part, moved.motion);
+    answered(moved.output)
 }
 
 // A cycle of the axis k.
-pub(crate) fn cycle_on(part: &mut [u8], k: u8, sent: Sent) -> CycleDone
-    ensures value { result ≡ cycle_answer k sent part.old }
+pub(crate) fn cycle_on(part: &mut [u8], k: u8, sent: Sent) -> Result<CycleDone, Refusal>
+    ensures value { told refused_cycle result ≡ cycle_answer k sent part.old }
     ensures part_after { part.new ≡ cycle_part k sent part.old }
 {
     if !part::well_formed(part, k) {
-        return refused_cycle(2);
+        return Err(Refusal::NotWellFormed);
     }
     if 3 < sent.flags {
-        return refused_cycle(12);
+        return Err(Refusal::UnknownFlags);
     }
-    let i = input_of(part, sent);
-    let m = part::load_motion(part);
+    let input = input_of(part, sent);
+    let motion = part::load_motion(part);
     let empty = part::has_no_fault(part);
-    if drive::is_quiet(m.word, empty, i) { // as nearly every cycle is
-        return quiet_cycle(part, m, !empty, i);
+    if drive::is_quiet(motion.word, empty, input) { // as nearly every cycle is
+        return Ok(quiet_cycle(part, motion, !empty, input));
     }
-    let c = drive::cycle_lent(drive::with_faults(m, part::load_faults(part)), i);
-    let d = c.drive;
-    let a = c.output;
-    part::store(part, d);
-    answered(a)
+    let done = drive::cycle_lent(drive::with_faults(motion, part::load_faults(part)), input);
+    part::store(part, done.drive);
+    Ok(answered(done.output))
 }
