@@ -5,7 +5,7 @@ ghost use Rattle.station.specs.Calls.{kinds, to_cycle, to_frame, to_return};
 ghost use Rattle.journal.specs.Line.{cycle_record, frame_record, return_record, frame_length, is_merged, cycle_call, frame_call, return_call, reply_room};
 
 use super::record;
-use station::{CycleDone, Framed, Returned};
+use station::{CycleDone, Framed, Returned, Sent};
 
 // The cycle of a record.
 pub(crate) fn cycle(station: &mut [u8], bytes: &[u8]) -> CycleDone
@@ -13,19 +13,14 @@ pub(crate) fn cycle(station: &mut [u8], bytes: &[u8]) -> CycleDone
     ensures result_value { to_cycle result ≡ answer kinds (cycle_call bytes.now) station.old }
     ensures station_after { station.new ≡ after kinds (cycle_call bytes.now) station.old }
 {
-    let stw1 = codes::word_at(bytes, 3);
-    let nsoll = codes::word_at(bytes, 5).cast_signed();
-    let nist = codes::word_at(bytes, 7).cast_signed();
-    let fault = codes::word_at(bytes, 9);
-    station::cycle(
-        station,
-        bytes[1] as u32,
-        bytes[2] as u32,
-        stw1,
-        nsoll,
-        nist,
-        fault,
-    )
+    let sent = Sent {
+        flags: bytes[2] as u32,
+        stw1: codes::word_at(bytes, 3),
+        nsoll: codes::word_at(bytes, 5).cast_signed(),
+        nist: codes::word_at(bytes, 7).cast_signed(),
+        fault: codes::word_at(bytes, 9),
+    };
+    station::cycle(station, bytes[1] as u32, sent)
 }
 
 // The frame of a record, by itself or as the merged call, answered in a reply memory of zeros.

@@ -53,7 +53,7 @@ impl Player {
     // A job that nothing is done of yet.
     fn new(job: Job) -> Player {
         let mut station = [0; STATION];
-        station::fresh(&mut station);
+        station::fresh(&mut station).unwrap();
         Player {
             job,
             station,

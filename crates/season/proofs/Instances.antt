@@ -6,7 +6,7 @@ use native.Mathlib.Omega.{arith}
 use lib.Dec.{eqb, lit≤}
 use lib.ListN.{length, get_or, take, drop, replicate}
 use Rattle.station.specs.Parts.{window, station_size, fresh_station}
-use Rattle.station.specs.Cycle.{Sent}
+use Rattle.station.specs.declared.Sent.{Sent}
 use Rattle.station.specs.Runs.{calls_by}
 use Rattle.station.specs.Isolation.{answer}
 use Rattle.station.specs.Calls.{Call, cycle, frame, exchange, number_in, kinds}

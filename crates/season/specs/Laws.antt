@@ -1,7 +1,7 @@
 -- What callers may cite of a season in place of its text: from document 02, R-1, and demand 2. Each is a statement here and a proof in proofs/.
 use Rattle.std.specs.Prelude.{◌≡◌, Bool, true, false, List, [], ◌∷◌, ◌++◌, map, ℕ, ◌+◌, ◌*◌, ◌^◌, ◌≤◌, ◌<◌, eqb, pos, length, get_or, take, replicate, Ok, Err}
 use Rattle.station.specs.Parts.{farms, station_size, part_of, fresh_parts, fresh_station}
-use Rattle.station.specs.Cycle.{Sent}
+use Rattle.station.specs.declared.Sent.{Sent}
 use Rattle.station.specs.Runs.{calls_by, run_answers, answers_to}
 use Rattle.station.specs.Isolation.{answer, machine}
 use Rattle.station.specs.Frame.{is_read}

@@ -26,7 +26,7 @@ fn marks(axis: u8) -> [u8; 247] {
 
 fn fresh() -> Station {
     let mut memory = [0; station::STATION];
-    station::fresh(&mut memory);
+    station::fresh(&mut memory).unwrap();
     memory
 }
 
