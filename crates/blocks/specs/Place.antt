@@ -60,6 +60,10 @@ abbrev pub walk : ℕ → List ℕ → ℕ → List Address
 walk zero s at = []
 walk (suc n) s at = onward (walk n s) (step_at s at)
 
+-- the addresses from a place on: no walk takes more steps than there are bytes
+abbrev pub addresses_from : List ℕ → ℕ → List Address
+addresses_from s at = walk (addresses_end s) s at
+
 -- the list l with a block written at a place; l itself where it does not fit, or has more values than a byte counts
 abbrev pub put_block : List ℕ → ℕ → Block → List ℕ
 put_block l at b = cond (leb (length b.values) 255) (put l at (block_bytes b)) l

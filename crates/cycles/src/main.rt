@@ -2,26 +2,14 @@
 #![tactic(auto)]
 
 use drive::faults::CODES;
-use drive::{Drive, Faults, Input, N2, Output, Rpm, State};
+use drive::{Drive, Faults, Input, N2, Output, Rpm};
 use std::io;
-
-fn print_state(rt: &impl Print, s: State) -> io::Result<()> {
-    match s {
-        State::S1 => rt.print("S1 "),
-        State::S2 => rt.print("S2 "),
-        State::S3 => rt.print("S3 "),
-        State::S4 => rt.print("S4 "),
-        State::S51 => rt.print("S51 "),
-        State::S52 => rt.print("S52 "),
-    }
-}
 
 // The state, ZSW1 and rpm, as a journal's line has them.
 fn print_output(rt: &impl Print, output: Output) -> io::Result<()> {
-    print_state(rt, output.state)?;
-    let status = output.status;
+    let Output { state, status, .. } = output;
     let Rpm(rpm) = output.speed;
-    print!(rt; "{status:04x} {rpm}")
+    print!(rt; "{state} {status:04x} {rpm}")
 }
 
 // The fault counter, and the codes of the two newest situations.

@@ -5,7 +5,7 @@ ghost use Rattle.part.specs.Record.{put_motion};
 ghost use Rattle.station.specs.Cycle.{input_of, refused_cycle, cycled, cycle_answer, cycle_part};
 
 use super::{CycleDone, Cycled};
-use drive::{Input, Motion, N2, Output};
+use drive::{Drive, Input, Motion, N2, Output};
 
 // A refused cycle answers its number and zeros, and did nothing.
 pub(crate) fn refused_cycle(n: u8) -> CycleDone
@@ -49,7 +49,7 @@ fn answered(a: Output) -> CycleDone
     let told = Cycled {
         rpm: v.0,
         status: a.status,
-        state: part::number_of(s),
+        state: u8::from(s),
         number: 0,
     };
     CycleDone {
@@ -96,7 +96,13 @@ pub(crate) fn cycle_on(
     if drive::is_quiet(m.word, empty, i) { // as nearly every cycle is
         return quiet_cycle(part, m, !empty, i);
     }
-    let c = drive::cycle_lent(drive::with_faults(m, part::load_faults(part)), i);
+    let c = drive::cycle_lent(
+        Drive {
+            motion: m,
+            faults: part::load_faults(part),
+        },
+        i,
+    );
     let d = c.drive;
     let a = c.output;
     part::store(part, d);

@@ -49,5 +49,5 @@ returns c =
     let h = c.ranges in
     let input = rw (to_z-of_z w16 a.nsoll h.nsoll, to_z-of_z w16 a.nist h.nist) at c.input_of-i.ensures in
     let o = cycles a.k i a.part.now (sym w.ensures ∙ c.if-not-well_formed.false) c.if-flags-gt3.false in
-    let e : c.cycle_lent-c.result ≡ cycle_of (drive_of a.part.now) (input_of i a.part.now) = c.cycle_lent-c.ensures ∙ ap₂ cycle_of (c.with_faults.ensures ∙ (ap₂ with_faults c.load_motion-m.ensures c.load_faults.ensures ∙ loaded_whole a.part.now)) input in
+    let e : c.cycle_lent-c.result ≡ cycle_of (drive_of a.part.now) (input_of i a.part.now) = c.cycle_lent-c.ensures ∙ ap₂ cycle_of (ap₂ with_faults c.load_motion-m.ensures c.load_faults.ensures ∙ loaded_whole a.part.now) input in
     record { value = c.answered.ensures ∙ (ap (λ (x : CycleEnd). cycled x.output) e ∙ o.0); part_after = c.store.ensures ∙ (ap (λ (x : CycleEnd). put_drive x.drive a.part.now) e ∙ o.1) }
