@@ -34,7 +34,7 @@ pub fn between(low: u8, x: u8, high: u8) -> bool
 pub fn stands(len: usize, at: usize, w: usize) -> bool
     ensures { IsTrue result ↔ (at + w ≤ len) }
 {
-    at <= len && w <= len - at
+    w <= len && at <= len - w
 }
 
 // The number that at most four bytes are, high byte first.

@@ -8,4 +8,4 @@ use Rattle.checker.proofs.answer_size.Goals as goal
 pub returns : goal.returns
 returns c =
     let a = c.args in
-    rw (c.wide.ensures, c.code_size.ensures.0 ∙ code_value a.f c.requires) (omega (arith, values_size_lem a.f a.n, fill_even a.f a.n))
+    rw (c.from.ensures, c.code_size.ensures.0 ∙ code_value a.f c.requires) (omega (arith, values_size_lem a.f a.n, fill_even a.f a.n))
