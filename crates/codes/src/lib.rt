@@ -60,12 +60,14 @@ pub fn number_at(s: &[u8], at: usize, w: usize) -> u32
     }
 }
 
+#[tactic(auto, using(crate::proofs::Number::number_small))]
 pub fn byte_at(s: &[u8], at: usize) -> u8
     ensures { result ≡ number_at 1 s.now at }
 {
     number_at(s, at, 1) as u8
 }
 
+#[tactic(auto, using(crate::proofs::Number::number_small))]
 pub fn word_at(s: &[u8], at: usize) -> u16
     ensures { result ≡ number_at 2 s.now at }
 {
