@@ -33,7 +33,7 @@ pub fn code_size(f: u8) -> usize
 
 // Bytes of one value, by its format; 0 where there is no such format. Most values are words, so these come first and not in one match: that is
 // a jump by a table. Codes and types are two dense tables.
-#[tactic(auto, unfolding(crate::specs::Block::format_size))]
+#[tactic(auto, using(crate::proofs::Formats::value_format, crate::proofs::Formats::code_value, crate::proofs::Blocks::format_small), unfolding(crate::specs::Block::format_size))]
 pub fn format_size(f: u8) -> usize
     ensures { (result ≡ format_size f) × (result ≤ 4) }
 {
@@ -46,6 +46,7 @@ pub fn format_size(f: u8) -> usize
     }
 }
 
+#[tactic(auto, using(crate::proofs::Formats::value_format, crate::proofs::Formats::code_value))]
 pub fn value_size(f: u8) -> usize
     ensures { result ≡ value_size f }
 {
