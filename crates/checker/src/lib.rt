@@ -39,6 +39,7 @@ fn count_fits(elements: u8, f: u8, n: u8) -> bool
 }
 
 // Bytes of a block of a response with n values of the format f: `blocks::writer::block_size` knows the data types too, and costs more.
+#[tactic(auto, using(blocks::proofs::Formats::code_value, blocks::proofs::Blocks::values_size_lem, blocks::proofs::Blocks::fill_even))]
 fn answer_size(f: u8, n: u8) -> usize
     requires { 0x40 ≤ f }
     ensures { result ≡ 2 + values_size f n }
@@ -71,6 +72,7 @@ fn counts_fit(request: &[u8], response: &[u8], count: u8) -> bool
 // Checks 3 to 7, of a readable request and a readable response. A function of its own, so that its loop has the registers to itself and no
 // byte of the request is kept in memory while the response is read.
 #[inline(never)]
+#[tactic(auto, using(crate::proofs::Comparing::both_long))]
 fn compare(request: &[u8], response: &[u8]) -> Verdict
     requires { BothRead request.now response.now }
     ensures { AsRead request.now response.now (λ q r. number_of result ≡ compared q r) }
