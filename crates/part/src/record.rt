@@ -14,7 +14,7 @@ use drive::{Drive, Faults, Motion, N2, State};
 fn speed_at(part: &[u8], at: usize) -> N2
     ensures { result ≡ speed_at part.now at }
 {
-    N2(codes::signed16(codes::word_at(part, at)))
+    N2(codes::word_at(part, at).cast_signed())
 }
 
 // N words, one after the other from `at` on.
@@ -59,13 +59,13 @@ pub fn load_motion(part: &[u8]) -> Motion
 fn put_word(part: &mut [u8], at: usize, x: u16)
     ensures { part.new ≡ put_word at x part.old }
 {
-    codes::put_number(part, at, 2, x as u32);
+    codes::put_number(part, at, 2, u32::from(x));
 }
 
 fn put_speed(part: &mut [u8], at: usize, v: N2)
     ensures { part.new ≡ put_speed at v part.old }
 {
-    put_word(part, at, codes::bits16(v.0));
+    put_word(part, at, v.0.cast_unsigned());
 }
 
 // The codes of every situation; nothing where they do not all fit.
