@@ -13,6 +13,9 @@ use super::runs;
 use catalogue::Row;
 use drive::State;
 
+// Memory of the size of a part.
+type Part = [u8; super::SIZE];
+
 // The elements of a writable row are inside its limits.
 fn limits_fit(part: &[u8], r: Row) -> bool
     ensures { result ≡ limits_fit part.now r }
@@ -63,8 +66,7 @@ fn situation_fits(s: &[u16]) -> bool
 
 // Each situation by itself. A function of its own, since few parts come to it, and `well_formed` then saves fewer registers.
 #[inline(never)]
-fn situations_fit(part: &[u8]) -> bool
-    requires { length part.now ≡ part_size }
+fn situations_fit(part: &Part) -> bool
     ensures { result ≡ proper_faults (faults_of part.now) }
 {
     (0..drive::faults::SITUATIONS).all(|k| {
@@ -75,8 +77,7 @@ fn situations_fit(part: &[u8]) -> bool
 }
 
 // Whether no situation has a second code: mostly so, and then all are in order. No early exit, as in `join_all`.
-fn are_single(part: &[u8]) -> bool
-    requires { length part.now ≡ part_size }
+fn are_single(part: &Part) -> bool
     ensures { result ≡ true → proper_faults (faults_of part.now) ≡ true }
 {
     let mut seen: u8 = 0;
@@ -89,8 +90,7 @@ fn are_single(part: &[u8]) -> bool
 }
 
 // Mostly no code stands in the buffer, and one look at its bytes settles it.
-fn faults_fit(part: &[u8]) -> bool
-    requires { length part.now ≡ part_size }
+fn faults_fit(part: &Part) -> bool
     ensures { result ≡ proper_faults (faults_of part.now) }
 {
     let buffer = &part[catalogue::AT_947 as usize..catalogue::AT_965 as usize];
@@ -99,8 +99,7 @@ fn faults_fit(part: &[u8]) -> bool
 
 // The waiting response is none or a readable block of that axis.
 #[tactic(auto, unfolding(crate::specs::WellFormed::waiting_fits))]
-fn waiting_fits(part: &[u8], axis: u8) -> bool
-    requires { length part.now ≡ part_size }
+fn waiting_fits(part: &Part, axis: u8) -> bool
     ensures { result ≡ waiting_fits axis part.now }
 {
     let n = super::waiting_length(part);
@@ -114,8 +113,7 @@ fn waiting_fits(part: &[u8], axis: u8) -> bool
 }
 
 // Unused response bytes are 0.
-fn unused_fits(part: &[u8]) -> bool
-    requires { length part.now ≡ part_size }
+fn unused_fits(part: &Part) -> bool
     ensures { result ≡ unused_fit part.now }
 {
     // Mostly none waits, and where they start is then known when this is compiled.
@@ -126,13 +124,10 @@ fn unused_fits(part: &[u8]) -> bool
     runs::is_clear(&part[start..super::VERSIONS])
 }
 
-// Whether the part of an axis is well-formed.
-pub fn well_formed(part: &[u8], axis: u8) -> bool
+// The tests of the rule in its order, on memory of the right size.
+fn fits(part: &Part, axis: u8) -> bool
     ensures { result ≡ well_formed axis part.now }
 {
-    if part.len() != super::SIZE {
-        return false;
-    }
     State::try_from(codes::byte_at(part, super::STATE)).is_ok()
         && limited_rows_fit(part)
         && fixed_rows_fit(part)
@@ -140,4 +135,14 @@ pub fn well_formed(part: &[u8], axis: u8) -> bool
         && waiting_fits(part, axis)
         && unused_fits(part)
         && versions::fit(&part[super::VERSIONS..])
+}
+
+// Whether the part of an axis is well-formed.
+pub fn well_formed(part: &[u8], axis: u8) -> bool
+    ensures { result ≡ well_formed axis part.now }
+{
+    match <&Part>::try_from(part) {
+        Ok(part) => fits(part, axis),
+        Err(_) => false,
+    }
 }

@@ -7,6 +7,7 @@ use lib.ListN.{length}
 use Prim.Native.Nat.{◌+◌}
 use native.Mathlib.Omega.{arith}
 use mathlib.Core.Path.{refl, ◌∙◌, ap}
+use borrow.Author.Rules.{rules}
 use Rattle.part.proofs.form.unused_fits.Goals as goal
 
 pub slice_bounds-is_clear-end : goal.slice_bounds-is_clear-end
@@ -16,6 +17,10 @@ slice_bounds-is_clear-end c = omega arith
 pub returns-then-waiting_length-eq0 : goal.returns-then-waiting_length-eq0
 unfolding parameter_bytes rows last_at
 returns-then-waiting_length-eq0 c = c.is_clear.ensures ∙ unused_is c.args.part.now (omega arith) 0 response_at (omega arith) (omega arith)
+
+pub waiting-requires : goal.waiting-requires
+unfolding parameter_bytes rows last_at
+waiting-requires c = search (rules, arith)
 
 pub slice_bounds-is_clear-count-2 : goal.slice_bounds-is_clear-count-2
 unfolding parameter_bytes rows last_at
