@@ -1,12 +1,19 @@
 -- A format, a count and bytes put one after the other are put as a whole.
+use lib.Seq.{drop-cons}
 use mathlib.Core.Path.{◌≡◌, ◌∙◌}
 use mathlib.Core.List.{List, [], ◌∷◌, ◌++◌}
-use Prim.Native.Nat.{ℕ, ◌+◌, ◌≤◌}
+use Prim.Native.Nat.{ℕ, ◌+◌, ◌≤◌, suc}
 use native.Mathlib.Omega.{arith}
 use native.Mathlib.Numerals.{add-one}
-use lib.ListN.{length, set}
+use lib.ListN.{length, set, get_or, take, drop}
 use Rattle.codes.specs.Number.{put}
 use Rattle.codes.proofs.Put.{put_length, put_append, sets_put}
+
+-- two bytes stored, one after the other
+pub copied_two : (l : List ℕ) (at : ℕ) (s : List ℕ) (from : ℕ) → at + 2 ≤ length l → from + 2 ≤ length s → set (set l at (get_or s from 0)) (at + 1) (get_or s (from + 1) 0) ≡ put l at (take 2 (drop from s))
+copied_two l at s from room there =
+    rw (drop-cons s from 0 (omega arith), drop-cons s (suc from) 0 (omega arith), add-one at, add-one from)
+    (sets_put l at (get_or s from 0 ∷ get_or s (suc from) 0 ∷ []) (omega arith))
 
 -- two bytes stored, bytes put after them, and one that fills these up
 module _ (l : List ℕ) (at f n : ℕ) (cs : List ℕ) where

@@ -15,7 +15,7 @@ ghost use Rattle.access.specs.Walk.{Wrote, WroteAll, request_in, responded_part}
 use super::reply::Written;
 use super::{ParameterError, address, copies, reply};
 use blocks::Header;
-use blocks::reader::{Address, FIRST, address_at};
+use blocks::reader::{Address, FIRST, SIZE, address_of};
 use catalogue::Row;
 
 // No parameter has more elements than the fault buffer.
@@ -107,11 +107,8 @@ pub(crate) fn read_all(part: &[u8], block: &[u8], n: usize, out: &mut [u8]) -> W
     let mut used = FIRST;
     let mut error = false;
     for after in (0..n).rev() {
-        let Some((a, next)) = address_at(block, at) else {
-            return Written { next: used, error };
-        };
-        let w = read_one(part, a, out, used, after);
-        at = next;
+        let w = read_one(part, address_of(block, at), out, used, after);
+        at += SIZE;
         used = w.next;
         error |= w.error;
     }

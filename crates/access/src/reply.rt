@@ -41,5 +41,5 @@ pub(crate) fn respond(part: &mut [u8], h: Header, id: u8, body: [u8; blocks::BLO
             ..h
         },
     );
-    part::put_response(part, out, n as u8);
+    part::put_response(part, &out[..n]);
 }
