@@ -24,14 +24,6 @@ unfolding drive_of
 loaded_whole p = refl
 
 module _ (k : ℕ) (i : Sent) (p : List ℕ) where
-  pub unformed : well_formed k p ≡ false → (refused_cycle 2 ≡ cycle_answer k i p) × (p ≡ cycle_part k i p)
-  unfolding cycle_refusal cycle_answer cycle_part
-  unformed w = rw w (refl, refl)
-
-  pub flagged : well_formed k p ≡ true → 3 < i.flags → (refused_cycle 12 ≡ cycle_answer k i p) × (p ≡ cycle_part k i p)
-  unfolding cycle_refusal cycle_answer cycle_part
-  flagged w h = rw (w, lt-ltb 3 i.flags h) (refl, refl)
-
   pub cycles :
       well_formed k p ≡ true → i.flags ≤ 3
       → (cycled (cycle_of (drive_of p) (input_of i p)).output ≡ cycle_answer k i p)

@@ -82,6 +82,7 @@ pub const FARMS: usize = 16;
 // Bytes of a station's memory.
 pub const STATION: usize = FARMS * part::SIZE;
 
+#[tactic(auto, unfolding(catalogue::specs::Table::parameter_bytes, catalogue::specs::Table::rows, versions::specs::Layout::last_at))]
 pub fn size() -> usize
     ensures { result ≡ station_size }
 {
@@ -89,6 +90,7 @@ pub fn size() -> usize
 }
 
 // Where the part of a farm or axis lies in a station's memory.
+#[tactic(auto, unfolding(catalogue::specs::Table::parameter_bytes, catalogue::specs::Table::rows, versions::specs::Layout::last_at))]
 fn place_of(k: u32) -> Range<usize>
     requires { (1 ≤ k) × (k ≤ farms) }
     ensures { Place k result }
@@ -98,6 +100,7 @@ fn place_of(k: u32) -> Range<usize>
 }
 
 // The same, of any farm or axis and the bytes of the memory that is lent, unless one of them is refused.
+#[tactic(auto, using(crate::proofs::Answers::lends), unfolding(crate::specs::Parts::station_refusal, catalogue::specs::Table::parameter_bytes, catalogue::specs::Table::rows, versions::specs::Layout::last_at))]
 fn place_in(k: u32, size: usize) -> Result<Range<usize>, Refusal>
     ensures number { number_of result ≡ station_refusal k size }
     ensures place { IfOk result (λ place. Lent k size place) }
