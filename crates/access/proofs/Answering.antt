@@ -1,7 +1,7 @@
 -- How an address of a change is answered: by `40 00` or by an error, of at most four bytes.
 use Rattle.std.specs.Prelude.{Result, Ok, Err}
 use Rattle.access.specs.declared.error.ParameterError.{ParameterError}
-use mathlib.Core.Path.{◌≡◌, refl, subst}
+use mathlib.Core.Path.{◌≡◌, refl}
 use mathlib.Core.Bool.{Bool, true, false, cond, not, ◌||◌}
 use mathlib.Core.List.{List, [], ◌∷◌}
 use Prim.Native.Nat.{ℕ, ◌+◌, ◌*◌, ◌≤◌}

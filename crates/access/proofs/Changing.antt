@@ -1,13 +1,11 @@
 -- The loop over the addresses and blocks of a change: what is left to do from where it stands is what was to be done at first.
-use Rattle.std.proofs.lemmas.Option.{same_Some}
 use Rattle.std.specs.Prelude.{Option, Some, None, Result}
 use mathlib.Core.Path.{◌≡◌, refl, sym, ◌∙◌, ap}
-use mathlib.Core.Bool.{Bool, true, false, cond, ◌||◌}
+use mathlib.Core.Bool.{Bool, true, false, ◌||◌}
 use mathlib.Core.List.{List, [], ◌∷◌}
 use Prim.Native.Nat.{ℕ, zero, suc, ◌+◌, ◌-◌, ◌*◌, ◌≤◌, ◌<◌}
 use native.Mathlib.Omega.{arith}
 use native.Mathlib.Numerals.{sub-one}
-use lib.Dec.{leb}
 use lib.ListN.{length, drop}
 use Rattle.codes.specs.Code.{Got, got, bad, and_then, read_times}
 use Rattle.codes.specs.Number.{value_or}
@@ -15,8 +13,7 @@ use Rattle.codes.proofs.Put.{put_length}
 use Rattle.drive.specs.Faults.{buffer_codes}
 use Rattle.blocks.specs.Block.{Block, block_limit, change_block_fits, block}
 use Rattle.blocks.specs.Page.{block_bytes}
-use Rattle.blocks.specs.Place.{addresses_end, step_of, step_at, block_at, walk}
-use Rattle.blocks.specs.Request.{address}
+use Rattle.blocks.specs.Place.{step_at, block_at, walk}
 use Rattle.blocks.specs.declared.Head.{Head}
 use Rattle.blocks.specs.declared.reader.Address.{Address}
 use Rattle.blocks.proofs.Blocks.{block_stands, block_falls}
@@ -56,16 +53,6 @@ blocks_next s from left h st w =
     go : (b : Block) (g : Got (List Block)) → length (value_or [] (and_then g (λ bs u. got (b ∷ bs) u))) ≡ suc left → value_or [] (and_then g (λ bs u. got (b ∷ bs) u)) ≡ b ∷ value_or [] g
     go b (got bs u) e = refl
     go b bad e = absurd (omega arith)
-
--- an address takes six bytes
-pub step_six : (s : List ℕ) (at : ℕ) (a : Address) (next : ℕ) → step_at s at ≡ Some (a, next) → next ≡ at + 6
-unfolding step_at
-step_six s at a next e = go (leb (at + 6) (addresses_end s)) (address.read (drop at s)) e
-  where
-    go : (b : Bool) (g : Got Address) → cond b (step_of (at + 6) g) None ≡ Some (a, next) → next ≡ at + 6
-    go true (got x t) q = sym (ap (λ (p : Address × ℕ). p.1) (same_Some (x, at + 6) (a, next) q))
-    go true bad q = absurd (let z : ◌≡◌ {A = ℕ} 0 1 = cc in omega arith)
-    go false g q = absurd (let z : ◌≡◌ {A = ℕ} 0 1 = cc in omega arith)
 
 -- an error now, or one before
 pub error_now : (before now : Bool) → now ≡ true → true ≡ (before || now)

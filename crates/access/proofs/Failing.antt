@@ -2,13 +2,13 @@
 use Rattle.access.specs.declared.error.ParameterError.{ParameterError}
 use Rattle.std.specs.Prelude.{Some, Result, Err}
 use mathlib.Core.Path.{◌≡◌, refl, sym, ◌∙◌, ap, subst}
-use mathlib.Core.Bool.{Bool, true, false, cond, not, ◌||◌}
+use mathlib.Core.Bool.{Bool, true, cond, not, ◌||◌}
 use mathlib.Core.List.{List}
 use Prim.Native.Nat.{ℕ}
 use native.Mathlib.Omega.{arith}
 use lib.Dec.{eqb}
 use lib.ListN.{length}
-use borrow.Author.Tests.{eq-eqb, ne_eqb}
+use borrow.Author.Tests.{eq-eqb}
 use Rattle.codes.specs.Number.{value_or}
 use Rattle.blocks.specs.Block.{Block, change_block_fits}
 use Rattle.blocks.specs.Place.{block_at}
@@ -48,17 +48,8 @@ three_passed w f z c₁ c₂ c₃ c ew ef ez = rw (ew, ef, ez)
 
 -- the tests of an address that names n elements of a row, with a block of format f and of k values
 module _ (a : Address) (b : Block) (p m : List ℕ) (r : Row) (n f k : ℕ) (d : Result ℕ ParameterError) (ef : f ≡ b.format) (ek : k ≡ length b.values) where
-  pub is_locked : r.writable ≡ false → Did (failure ReadOnly p) m d → Did (of_elements a b p r n) m d
-  is_locked w o = rw w o
-
   module _ (w : r.writable ≡ true) where
-    pub is_alien : (eqb f (size_code r.kind) || eqb f (type_code r.kind)) ≡ false → Did (failure WrongType p) m d → Did (of_elements a b p r n) m d
-    is_alien e o = rw (w, ← ef, e) o
-
     module _ (e : (eqb f (size_code r.kind) || eqb f (type_code r.kind)) ≡ true) where
-      pub is_miscounted : (k ≡ n → ⊥) → Did (failure WrongCount p) m d → Did (of_elements a b p r n) m d
-      is_miscounted z o = rw (w, ← ef, e, ← ek, ne_eqb k n z) o
-
       pub is_stored : k ≡ n → Did (store_whole r a.subindex b.values p) m d → Did (of_elements a b p r n) m d
       is_stored z o =
           subst (λ (c : Changed). Did c m d)

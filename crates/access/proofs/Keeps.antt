@@ -32,7 +32,8 @@ use Rattle.versions.specs.Keep.{taken}
 use Rattle.versions.specs.Fit.{versions_fit}
 use Rattle.part.specs.Layout.{state_at, length_at, response_at, versions_at, part_size, with_response, versions, with_version}
 use Rattle.part.specs.Record.{words_at}
-use Rattle.part.specs.WellFormed.{is_state, limits_fit, fixed_fit, waiting_fits, unused_fit, well_formed}
+use Rattle.part.specs.WellFormed.{limits_fit, fixed_fit, waiting_fits, unused_fit, well_formed}
+use Rattle.drive.specs.States.{is_state}
 use Rattle.part.proofs.Laws.{response_well_formed, drop_later}
 use Rattle.part.proofs.Versions.{front_element, front_taken, version_length, version_front, version_taken, version_well_formed, front_middle}
 use Rattle.access.specs.Change.{store_from, success, change_one, ChangedAll, change_all}

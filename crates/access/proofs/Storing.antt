@@ -80,9 +80,6 @@ module _ (r : Row) (w n : ℕ) (s : List ℕ) (at₀ at left : ℕ) (c : Testing
     pub test_stop : inside r (number_at w s at) ≡ false → false ≡ all_inside r (numbers_at w n s at₀)
     test_stop t = rw t at here
 
-  pub test_end : left ≡ 0 → true ≡ all_inside r (numbers_at w n s at₀)
-  test_end e = rw e at c.todo
-
 -- The loop that stores: what is left to store from where it stands is what was to be stored at first.
 pub record Storing (r : Row) (w n : ℕ) (s : List ℕ) (at₀ i : ℕ) (p₀ p : List ℕ) (at to left : ℕ) : Type 0 where
   pub room : at + left * w ≤ length s
@@ -99,9 +96,6 @@ module _ (r : Row) (w n : ℕ) (s : List ℕ) (at₀ i : ℕ) (p₀ p : List ℕ
         size = k ∙ c.size;
         todo = rw (q, e) (ap (λ (xs : List ℕ). store_from r to xs p) (sym (values_next w left s at h)) ∙ c.todo);
       }
-
-  pub store_end : left ≡ 0 → p ≡ store_from r i (numbers_at w n s at₀) p₀
-  store_end e = rw e at c.todo
 
 -- Where all of them fit, they are stored as the bytes that they stand in.
 module _ (r : Row) where

@@ -1,5 +1,6 @@
 // What an address names: the elements of a parameter, or its error.
-ghost use Rattle.std.specs.Prelude.{◌≡◌, true, false, Some};
+ghost use Rattle.std.specs.Prelude.{◌≡◌, true, false, cond, eqb, Some};
+ghost use Rattle.access.specs.declared.error.ParameterError.TheVariants.{NoDescription, NoText, BadAddress};
 ghost use Rattle.access.specs.Address.{checked_in, checked};
 
 use super::ParameterError;
@@ -32,17 +33,22 @@ fn of_array(a: Address, r: Row) -> Result<(Row, u16), ParameterError>
     Ok((r, a.elements as u16))
 }
 
+// What asks for no values.
+fn of_attribute(attribute: u8) -> ParameterError
+    ensures { result ≡ cond (eqb attribute 0x20) NoDescription (cond (eqb attribute 0x30) NoText BadAddress) }
+{
+    match attribute {
+        0x20 => ParameterError::NoDescription,
+        0x30 => ParameterError::NoText,
+        _ => ParameterError::BadAddress,
+    }
+}
+
 fn of_row(a: Address, r: Row) -> Result<(Row, u16), ParameterError>
     ensures { result ≡ checked_in a (Some r) }
 {
-    if a.attribute == 0x20 {
-        return Err(ParameterError::NoDescription);
-    }
-    if a.attribute == 0x30 {
-        return Err(ParameterError::NoText);
-    }
     if a.attribute != 0x10 {
-        return Err(ParameterError::BadAddress);
+        return Err(of_attribute(a.attribute));
     }
     if r.simple {
         of_simple(a, r)

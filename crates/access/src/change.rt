@@ -14,7 +14,7 @@ ghost use Rattle.access.specs.Walk.{block_in, blocks_in, answer_in, Did, DidAll,
 
 use super::reply::Written;
 use super::{ParameterError, Refused, address, copies, reply};
-use blocks::reader::Address;
+use blocks::reader::{Address, FIRST, SIZE, address_of};
 use blocks::{Head, Header};
 use catalogue::{Kind, Row};
 
@@ -198,26 +198,23 @@ pub(crate) fn change_all(part: &mut [u8], block: &[u8], n: usize, out: &mut [u8]
     requires { (length (walk n block.now 4) ≡ n) × (length (blocks_in n block.now (4 + n * 6)) ≡ n) × (n ≤ 39) × (length out.old ≡ block_limit) }
     ensures { DidAll (change_all (walk n block.now 4) (blocks_in n block.now (4 + n * 6)) part.old) part.new out.old out.new result }
 {
-    let mut at = blocks::reader::FIRST;
-    let mut from = at + n * 6;
+    let mut at = FIRST;
+    let mut from = at + n * SIZE;
     let mut all = Changes {
-        next: blocks::reader::FIRST,
+        next: FIRST,
         error: false,
         stored: 0,
     };
     for _ in 0..n {
-        let Some((a, next)) = blocks::reader::address_at(block, at) else {
-            return all;
-        };
         let h = head_here(block, from);
-        let d = change_one(part, a, block, from, h);
+        let d = change_one(part, address_of(block, at), block, from, h);
         let w = put_answer(out, all.next, d);
         all = Changes {
             next: w.next,
             error: w.error || all.error, // asked in this order (decision 97)
             stored: all.stored + d.unwrap_or(0),
         };
-        at = next;
+        at += SIZE;
         from = h.next;
     }
     all
@@ -242,7 +239,7 @@ pub(crate) fn answer(part: &mut [u8], block: &[u8], h: Header) -> Result<u16, Re
     if d.error {
         reply::respond(part, h, 0x82, body, d.next);
     } else {
-        reply::respond(part, h, 0x02, body, blocks::reader::FIRST);
+        reply::respond(part, h, 0x02, body, FIRST);
     }
     Ok(d.stored)
 }

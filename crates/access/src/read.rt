@@ -15,7 +15,7 @@ ghost use Rattle.access.specs.Walk.{Wrote, WroteAll, request_in, responded_part}
 use super::reply::Written;
 use super::{ParameterError, address, copies, reply};
 use blocks::Header;
-use blocks::reader::Address;
+use blocks::reader::{Address, FIRST, SIZE, address_of};
 use catalogue::Row;
 
 // No parameter has more elements than the fault buffer.
@@ -103,15 +103,12 @@ pub(crate) fn read_all(part: &[u8], block: &[u8], n: usize, out: &mut [u8]) -> W
     requires { (length (walk n block.now 4) ≡ n) × (n ≤ 39) × (length out.old ≡ block_limit) }
     ensures { WroteAll out.old out.new 4 (read_blocks part.now 4 (walk n block.now 4)) result }
 {
-    let mut at = blocks::reader::FIRST;
-    let mut used = blocks::reader::FIRST;
+    let mut at = FIRST;
+    let mut used = FIRST;
     let mut error = false;
     for after in (0..n).rev() {
-        let Some((a, next)) = blocks::reader::address_at(block, at) else {
-            return Written { next: used, error };
-        };
-        let w = read_one(part, a, out, used, after);
-        at = next;
+        let w = read_one(part, address_of(block, at), out, used, after);
+        at += SIZE;
         used = w.next;
         error |= w.error;
     }
@@ -125,9 +122,6 @@ pub(crate) fn answer(part: &mut [u8], block: &[u8], h: Header)
 {
     let mut body = [0u8; blocks::BLOCK_LIMIT];
     let w = read_all(part, block, h.count as usize, &mut body);
-    if w.error {
-        reply::respond(part, h, 0x81, body, w.next);
-    } else {
-        reply::respond(part, h, 0x01, body, w.next);
-    }
+    let identifier = if w.error { 0x81 } else { 0x01 };
+    reply::respond(part, h, identifier, body, w.next);
 }

@@ -33,13 +33,13 @@ pub(crate) fn respond(part: &mut [u8], h: Header, id: u8, body: [u8; blocks::BLO
     requires { (4 ≤ n) × (n ≤ block_limit) }
     ensures { part.new ≡ with_response (header_bytes (record { reference = h.reference; identifier = id; axis = h.axis; count = h.count }) ++ take (n - 4) (drop 4 body)) part.old }
 {
-    let header = Header {
-        reference: h.reference,
-        identifier: id,
-        axis: h.axis,
-        count: h.count,
-    };
     let mut out = body;
-    blocks::writer::put_header(&mut out, header);
-    part::put_response(part, out, n as u8);
+    blocks::writer::put_header(
+        &mut out,
+        Header {
+            identifier: id,
+            ..h
+        },
+    );
+    part::put_response(part, &out[..n]);
 }

@@ -11,14 +11,14 @@ use lib.ListN.{length, get_or, drop, drop_of_length-le}
 use lib.Seq.{drop-drop, drop_at}
 use lib.Dec.{leb}
 use borrow.Author.Tests.{le-leb, lt-leb}
-use Rattle.codes.specs.Code.{got, bad, read_times, byte, word}
+use Rattle.codes.specs.Code.{Got, got, bad, read_times, byte, word}
 use Rattle.codes.specs.Number.{number_at}
 use Rattle.codes.proofs.Items.{first_read}
 use Rattle.codes.proofs.Fixed.{Bytes, byte_at, Fixed, fixed_byte, fixed_give, fixed_field, fixed_word}
 use Rattle.codes.proofs.Number.{number_is, byte_number}
 use Rattle.blocks.specs.declared.reader.Address.{Address}
 use Rattle.blocks.specs.Request.{Request, address, request}
-use Rattle.blocks.specs.Place.{addresses_end, step_at, walk}
+use Rattle.blocks.specs.Place.{addresses_end, step_of, step_at, onward, walk, addresses_from}
 use Rattle.blocks.proofs.Sound.{address_sound}
 use Rattle.blocks.proofs.Request.{addresses_read, addresses_end_lem}
 
@@ -55,15 +55,20 @@ pub address_end : (s : List ℕ) (at : ℕ) → addresses_end s < at + 6 → ste
 unfolding step_at
 address_end s at h = rw (lt-leb _ _ h)
 
+-- where fewer than six bytes are left, none is read
+pub address_unread : (s : List ℕ) → Bytes s → (at : ℕ) → length s < at + 6 → address.read (drop at s) ≡ bad
+unfolding address
+address_unread s b at h = go (dec_le at (length s))
+  where
+    go : Dec (at ≤ length s) → address.read (drop at s) ≡ bad
+    go (yes y) = fixed_address.short s b at y h
+    go (no n) = rw (drop_of_length-le s {i = at} (omega arith))
+
 -- where fewer than six bytes are left, no address stands
 pub address_short : (s : List ℕ) → Bytes s → (at : ℕ) → length s < at + 6 → step_at s at ≡ None
-unfolding step_at address
-address_short s b at h = rw (unread (dec_le at (length s))) (either (leb (at + 6) (addresses_end s)))
+unfolding step_at
+address_short s b at h = rw (address_unread s b at h) (either (leb (at + 6) (addresses_end s)))
   where
-    unread : Dec (at ≤ length s) → address.read (drop at s) ≡ bad
-    unread (yes y) = fixed_address.short s b at y h
-    unread (no n) = rw (drop_of_length-le s {i = at} (omega arith))
-
     either : (t : Bool) → let none : Option (Address × ℕ) = None in cond t none none ≡ none
     either true = refl
     either false = refl
@@ -72,6 +77,47 @@ address_short s b at h = rw (unread (dec_le at (length s))) (either (leb (at + 6
 pub address_next : (s : List ℕ) (at : ℕ) (a : Address) (t : List ℕ) → address.read (drop at s) ≡ got a t → at + 6 ≤ addresses_end s → step_at s at ≡ Some (a, (at + 6))
 unfolding step_at
 address_next s at a t e h = rw (le-leb _ _ h, e)
+
+abbrev place_of : Option (Address × ℕ) → ℕ
+place_of (Some (a, k)) = k
+place_of None = 0
+
+-- a step goes six bytes on
+step_next : (s : List ℕ) (at : ℕ) (a : Address) (k : ℕ) → step_at s at ≡ Some (a, k) → k ≡ at + 6
+unfolding step_at
+step_next s at a k = go (leb (at + 6) (addresses_end s)) (address.read (drop at s))
+  where
+    go : (t : Bool) (g : Got Address) → cond t (step_of (at + 6) g) None ≡ Some (a, k) → k ≡ at + 6
+    go true (got x u) e = sym (ap place_of e)
+    go true bad e = absurd (let z : ◌≡◌ {A = ℕ} 0 1 = cc in omega arith)
+    go false g e = absurd (let z : ◌≡◌ {A = ℕ} 0 1 = cc in omega arith)
+
+-- a walk that may take enough steps to come to the end takes no more where it may
+walk_enough : (n : ℕ) (s : List ℕ) (at : ℕ) → addresses_end s < at + suc n * 6 → walk n s at ≡ walk (suc n) s at
+walk_enough zero s at h = rw (address_end s at (omega arith))
+walk_enough (suc n) s at h = go (λ k z. walk_enough n s k (omega (arith, suc-mul (suc n) 6))) (step_at s at) refl
+  where
+    go : ((k : ℕ) → k ≡ at + 6 → walk n s k ≡ walk (suc n) s k) → (r : Option (Address × ℕ)) → step_at s at ≡ r → onward (walk n s) r ≡ onward (walk (suc n) s) r
+    go ih (Some (a, k)) e = ap (λ (l : List Address). a ∷ l) (ih k (step_next s at a k e))
+    go ih None e = refl
+
+-- where a step finds an address, it is the first of those from there on, and the others are those from the place after it
+pub addresses_step : (s : List ℕ) (at : ℕ) (a : Address) (k : ℕ) → step_at s at ≡ Some (a, k) → addresses_from s at ≡ a ∷ addresses_from s k
+addresses_step s at a k e = go (addresses_end s) refl
+  where
+    go : (n : ℕ) → addresses_end s ≡ n → walk n s at ≡ a ∷ walk n s k
+    go zero z = absurd (omega arith)
+    go (suc n) z =
+        let six = step_next s at a k e in
+        rw e (ap (λ (l : List Address). a ∷ l) (walk_enough n s k (omega (arith, suc-mul n 6))))
+
+-- where it finds none, there are none
+pub addresses_none : (s : List ℕ) (at : ℕ) → step_at s at ≡ None → addresses_from s at ≡ []
+addresses_none s at e = go (addresses_end s)
+  where
+    go : (n : ℕ) → walk n s at ≡ []
+    go zero = refl
+    go (suc n) = rw e
 
 -- what follows an address stands six bytes further
 address_after : (s : List ℕ) (at : ℕ) (a : Address) (t : List ℕ) → address.read (drop at s) ≡ got a t → t ≡ drop (at + 6) s

@@ -29,13 +29,13 @@ at_most : (b : Bool) (x y : ℕ) → x ≤ 4 → y ≤ 4 → cond b x y ≤ 4
 at_most true x y h k = h
 at_most false x y h k = k
 
+pub format_small : (f : ℕ) → format_size f ≤ 4
+unfolding format_size
+format_small f = at_most (one_byte f) 1 _ (lit≤ tt) (at_most (two_bytes f) 2 _ (lit≤ tt) (at_most (four_bytes f) 4 0 (lit≤ tt) (lit≤ tt)))
+
 pub size_small : (f : ℕ) → value_size f ≤ 4
-unfolding value_size format_size
-size_small f =
-    at_most (eqb f 0x44) 2 _ (lit≤ tt)
-    (at_most (one_byte f) 1 _ (lit≤ tt)
-    (at_most (two_bytes f) 2 _ (lit≤ tt)
-    (at_most (four_bytes f) 4 0 (lit≤ tt) (lit≤ tt))))
+unfolding value_size
+size_small f = at_most (eqb f 0x44) 2 _ (lit≤ tt) (format_small f)
 
 -- what fills the values makes their bytes even in number: no other format than a byte's has an odd size
 even_sizes : (e o t q : Bool) → (e ≡ true → o ≡ false) → (n : ℕ) → cond o (n % 2) 0 ≡ n * cond e 2 (cond o 1 (cond t 2 (cond q 4 0))) % 2

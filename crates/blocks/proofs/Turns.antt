@@ -1,6 +1,6 @@
 -- A loop over blocks: what is left to read from where it stands is what was to be read at first.
 use Rattle.std.specs.Prelude.{Some, None}
-use mathlib.Core.Path.{◌≡◌, refl, sym, ◌∙◌, ap, subst}
+use mathlib.Core.Path.{◌≡◌, refl, sym, ◌∙◌, ap}
 use mathlib.Core.List.{List, ◌∷◌}
 use mathlib.Core.Bool.{Bool, true, false, not, ◌||◌}
 use Prim.Native.Nat.{ℕ, zero, suc, ◌-◌, ◌≤◌, ◌<◌}
@@ -14,9 +14,8 @@ use native.Mathlib.Decide.{dec_le}
 use Rattle.codes.specs.Code.{Got, got, bad, and_then, read_times, is_whole}
 use Rattle.blocks.specs.Block.{Block, block}
 use Rattle.blocks.specs.Response.{is_error, has_error}
-use Rattle.blocks.specs.Walk.{block_by, map_got, standing, InBlock, Walked, erring}
-use Rattle.blocks.specs.declared.Walk.{Walk}
-use Rattle.blocks.specs.declared.Walk.TheVariants.{At, Bad}
+use Rattle.blocks.specs.Walk.{block_by, map_got, standing, Walked, erring}
+use Rattle.blocks.specs.declared.Reached.{Reached}
 use Rattle.blocks.specs.declared.Head.{Head}
 use Rattle.blocks.proofs.Blocks.{block_stands, block_falls}
 
@@ -54,12 +53,16 @@ pub record Walking (fits : ℕ → ℕ → Bool) (s : List ℕ) (from n at left 
   pub inside : at ≤ length s
   pub todo : ahead error fits left (drop at s) ≡ map_got has_error (read_times (block fits).read n (drop from s))
 
+pub walk_starts : (fits : ℕ → ℕ → Bool) (s : List ℕ) (from n : ℕ) → from ≤ length s → Walking fits s from n from n false
+unfolding has_error
+walk_starts fits s from n h = record { inside = h; todo = refl }
+
 module _ (fits : ℕ → ℕ → Bool) (s : List ℕ) (from n at left : ℕ) (error : Bool) (w : Walking fits s from n at left error) where
   abbrev found : Got Bool
   found = map_got has_error (read_times (block fits).read n (drop from s))
 
   module _ (h : 0 < left) where
-    pub walk_stops : block_by fits s at ≡ None → Walked s found Bad
+    pub walk_stops : block_by fits s at ≡ None → Walked s found None
     walk_stops e = record { stands = halt fits (drop at s) error left h (block_falls fits s at e) ∙ w.todo; in_block = tt }
 
     pub walk_goes_on : (head : Head) (x : Bool) → block_by fits s at ≡ Some head → x ≡ (error || eqb head.format 0x44) → Walking fits s from n head.next (left - 1) x
@@ -72,7 +75,7 @@ module _ (fits : ℕ → ℕ → Bool) (s : List ℕ) (from n at left : ℕ) (er
               ∙ (turn fits (drop at s) error stood.it (drop head.next s) left h stood.read ∙ w.todo);
         }
 
-  pub walk_ends : left ≡ 0 → Walked s found (At at error)
+  pub walk_ends : left ≡ 0 → Walked s found (Some (record { at = at; error = error }))
   unfolding has_error
   walk_ends z =
       record {
@@ -83,13 +86,10 @@ module _ (fits : ℕ → ℕ → Bool) (s : List ℕ) (from n at left : ℕ) (er
       }
 
 -- a walk is whole where it stands at the slice's end, if it met the error that it needs
-module _ (s : List ℕ) (w : Walk) (e : ℕ) (b need : Bool) (q : w ≡ At e b) where
-  pub met : InBlock s w → not need || b ≡ true → eqb e (length s) ≡ is_whole (erring need (standing s w))
-  met i t = rw (q, t) (go (dec_le (length s) e) (subst (λ (x : Walk). InBlock s x) q i))
+module _ (s : List ℕ) (r : Reached) (need : Bool) where
+  pub met : r.at ≤ length s → not need || r.error ≡ true → eqb r.at (length s) ≡ is_whole (erring need (standing s (Some r)))
+  met h t = rw t (go (dec_le (length s) r.at))
     where
-      go : Dec (length s ≤ e) → e ≤ length s → eqb e (length s) ≡ is_whole (got b (drop e s))
-      go (yes y) h = rw (drop_of_length-le s y, eq-eqb e (length s) (omega arith))
-      go (no n) h = rw (drop-cons s e 0 (omega arith), ne_eqb e (length s) (λ z. n (omega arith)))
-
-  pub unmet : not need || b ≡ false → false ≡ is_whole (erring need (standing s w))
-  unmet t = rw (q, t)
+      go : Dec (length s ≤ r.at) → eqb r.at (length s) ≡ is_whole (got r.error (drop r.at s))
+      go (yes y) = rw (drop_of_length-le s y, eq-eqb r.at (length s) (omega arith))
+      go (no n) = rw (drop-cons s r.at 0 (omega arith), ne_eqb r.at (length s) (λ z. n (omega arith)))

@@ -5,9 +5,10 @@ ghost use Rattle.blocks.specs.Request.{request_blocks};
 ghost use Rattle.blocks.specs.Response.{response_blocks, is_answer};
 
 // Bytes of one value of a data type; 0 where f is none.
+#[tactic(auto, unfolding(crate::specs::Block::format_size))]
 fn type_size(f: u8) -> usize
     requires { (leb 0x41 f && leb f 0x43) ≡ false }
-    ensures { (result ≡ format_size f) × (result ≤ 4) }
+    ensures { result ≡ format_size f }
 {
     match f {
         2 | 5 => 1,
@@ -18,6 +19,7 @@ fn type_size(f: u8) -> usize
 }
 
 // Bytes of one value by a code of a response: a size code's or an error word's; 0 where f is neither.
+#[tactic(auto, unfolding(crate::specs::Block::code_size, crate::specs::Block::value_size, crate::specs::Block::format_size))]
 pub fn code_size(f: u8) -> usize
     ensures { (result ≡ code_size f) × (result ≤ 4) }
 {
@@ -30,21 +32,19 @@ pub fn code_size(f: u8) -> usize
 }
 
 // Bytes of one value, by its format; 0 where there is no such format. Most values are words; codes and types are two dense tables.
+#[tactic(auto, unfolding(crate::specs::Block::format_size))]
 pub fn format_size(f: u8) -> usize
     ensures { (result ≡ format_size f) × (result ≤ 4) }
 {
-    if f == 0x42 {
-        return 2;
-    }
-    if codes::between(0x41, f, 0x43) {
-        code_size(f)
-    } else {
-        type_size(f)
+    match f {
+        0x42 => 2,
+        0x41..=0x43 => code_size(f),
+        _ => type_size(f),
     }
 }
 
 pub fn value_size(f: u8) -> usize
-    ensures { (result ≡ value_size f) × (result ≤ 4) }
+    ensures { result ≡ value_size f }
 {
     if f < 0x41 { type_size(f) } else { code_size(f) }
 }
@@ -55,14 +55,15 @@ pub struct Sizes {
     pub each: usize,
     pub bare: usize,
     pub fill: usize,
+    ghost small: { (each ≤ 4) × (bare ≤ 1020) × (fill ≤ 1) },
 }
 
 // Those of n values of the format f.
 pub fn sizes_of(f: u8, n: u8) -> Sizes
-    ensures { (result ≡ record { each = value_size f; bare = n * value_size f; fill = fill_size f n }) × (result.each ≤ 4) × (result.bare ≤ 1020) × (result.fill ≤ 1) }
+    ensures { (result.each ≡ value_size f) × (result.bare ≡ n * value_size f) × (result.fill ≡ fill_size f n) }
 {
     let each = value_size(f);
-    let bare = codes::wide(n) * each;
+    let bare = usize::from(n) * each;
     Sizes {
         each,
         bare,
@@ -73,63 +74,55 @@ pub fn sizes_of(f: u8, n: u8) -> Sizes
 fn value_fits(f: u8, n: u8) -> bool
     ensures { result ≡ value_fits f n }
 {
-    if codes::between(0x41, f, 0x43) {
-        1 <= n
-    } else {
-        false
-    }
+    matches!(f, 0x41..=0x43) && 1 <= n
 }
 
 fn error_fits(f: u8, n: u8) -> bool
     ensures { result ≡ error_fits f n }
 {
-    if f == 0x44 { n == 1 } else { false }
+    f == 0x44 && n == 1
 }
 
 fn empty_fits(f: u8, n: u8) -> bool
     ensures { result ≡ empty_fits f n }
 {
-    if f == 0x40 { n == 0 } else { false }
+    f == 0x40 && n == 0
 }
 
 // Whether a block of format f with n values may stand in a response with the identifier `id`.
+#[tactic(auto, unfolding(crate::specs::Block::response_block_fits))]
 pub fn response_block_fits(id: u8, f: u8, n: u8) -> bool
     ensures { result ≡ response_block_fits id f n }
 {
-    if id == 1 {
-        return value_fits(f, n);
-    }
-    let e = error_fits(f, n);
-    if id == 0x81 {
-        codes::either(value_fits(f, n), e)
-    } else {
-        codes::either(empty_fits(f, n), e)
+    match id {
+        1 => value_fits(f, n),
+        0x81 => value_fits(f, n) || error_fits(f, n),
+        _ => empty_fits(f, n) || error_fits(f, n),
     }
 }
 
+#[tactic(auto, unfolding(crate::specs::Request::request_blocks))]
 pub fn request_blocks(id: u8, n: u8) -> usize
     ensures { result ≡ request_blocks id n }
 {
-    if id == 2 { codes::wide(n) } else { 0 }
+    if id == 2 { usize::from(n) } else { 0 }
 }
 
+#[tactic(auto, unfolding(crate::specs::Response::response_blocks))]
 pub fn response_blocks(id: u8, n: u8) -> usize
     ensures { result ≡ response_blocks id n }
 {
-    if id == 2 { 0 } else { codes::wide(n) }
+    if id == 2 { 0 } else { usize::from(n) }
+}
+
+pub fn is_request(id: u8) -> bool
+    ensures { result ≡ (leb 1 id && leb id 2) }
+{
+    matches!(id, 1 | 2)
 }
 
 pub fn is_answer(id: u8) -> bool
     ensures { result ≡ is_answer id }
 {
-    if id == 1 {
-        return true;
-    }
-    if id == 2 {
-        return true;
-    }
-    if id == 0x81 {
-        return true;
-    }
-    id == 0x82
+    matches!(id, 1 | 2 | 0x81 | 0x82)
 }

@@ -1,13 +1,13 @@
 // Request and response blocks: which are readable, what stands where in one, and how a response is written.
 #![tactic(auto)]
 
-ghost use Rattle.std.specs.Prelude.{◌≡◌, ◌||◌, ◌+◌, ◌≤◌, eqb, length, get_or, drop};
+ghost use Rattle.std.specs.Prelude.{◌≡◌, ◌||◌, ◌↔◌, ◌+◌, ◌≤◌, ℕ, Bool, ◌<◌, IsTrue, MatchOption, eqb, length, get_or, drop};
 ghost use Rattle.codes.specs.Code.{is_whole, times, readable};
 ghost use Rattle.blocks.specs.Block.{block_limit, value_size, change_block_fits, response_block_fits, block};
 ghost use Rattle.blocks.specs.Request.{request};
 ghost use Rattle.blocks.specs.Response.{has_error, response};
 ghost use Rattle.blocks.specs.Place.{header_of, block_at, value_at};
-ghost use Rattle.blocks.specs.Walk.{block_by, ByRules, map_got, standing, InBlock, Walked, erring};
+ghost use Rattle.blocks.specs.Walk.{block_by, ByRules, map_got, standing, InBlock, Walked, Starts, Framed, erring};
 
 mod layout;
 pub mod reader;
@@ -39,11 +39,46 @@ pub struct Head {
     pub next: usize,
 }
 
-// Where a walk over blocks stands, and whether it met an error block; or that the blocks are not readable.
+// Where a walk over blocks stands, and whether it met an error block.
 #[derive(Clone, Copy)]
-enum Walk {
-    At(usize, bool),
-    Bad,
+struct Reached {
+    at: usize,
+    error: bool,
+}
+
+// A rule of the formats and numbers of values that a block may have: the blocks that pass it.
+trait Rule {
+    ghost fits: { Self → ℕ → ℕ → Bool };
+
+    // The block at `at`.
+    fn block_at(&self, s: &[u8], at: usize) -> Option<Head>
+        ensures { result ≡ block_by (fits self.now) s.now at };
+}
+
+// The blocks of a change.
+#[derive(Clone, Copy)]
+struct Change;
+
+impl Rule for Change {
+    ghost fits = { λ rule. change_block_fits };
+
+    fn block_at(&self, s: &[u8], at: usize) -> Option<Head> {
+        block_at(s, at)
+    }
+}
+
+// The blocks of a response with an identifier.
+#[derive(Clone, Copy)]
+struct Answer {
+    identifier: u8,
+}
+
+impl Rule for Answer {
+    ghost fits = { λ rule. response_block_fits rule.identifier };
+
+    fn block_at(&self, s: &[u8], at: usize) -> Option<Head> {
+        answer_at(s, at, self.identifier)
+    }
 }
 
 pub fn header_of(s: &[u8]) -> Header
@@ -62,10 +97,7 @@ fn is_filled(s: &[u8], at: usize, fill: usize) -> bool
     requires { at + fill ≤ length s.now }
     ensures { result ≡ (eqb fill 0 || eqb (get_or s.now at 0) 0) }
 {
-    if fill == 0 {
-        return true;
-    }
-    s[at] == 0
+    fill == 0 || s[at] == 0
 }
 
 // The block at `at`, whose two first bytes stand there and whose values take `each` bytes: for every rule that it passes.
@@ -74,7 +106,7 @@ fn sized(s: &[u8], at: usize, each: usize) -> Option<Head>
     ensures { ByRules s.now at result }
 {
     let n = s[at + 1];
-    let bare = codes::wide(n) * each;
+    let bare = usize::from(n) * each;
     let fill = bare % 2;
     let filled = bare + fill;
     if s.len() - 2 - at < filled {
@@ -91,17 +123,22 @@ fn sized(s: &[u8], at: usize, each: usize) -> Option<Head>
     })
 }
 
+// The format and the number of values that a block at `at` begins with.
+fn start_of(s: &[u8], at: usize) -> Option<(u8, u8)>
+    ensures { MatchOption result (length s.now < at + 2) (λ r. Starts s.now at r.0 r.1) }
+{
+    let [format, count, ..] = s.get(at..)? else {
+        return None;
+    };
+    Some((*format, *count))
+}
+
 // The block of values of a change at `at`.
 pub fn block_at(s: &[u8], at: usize) -> Option<Head>
     ensures { result ≡ block_at s.now at }
 {
-    if s.len() < 2 {
-        return None;
-    }
-    if s.len() - 2 < at {
-        return None;
-    }
-    let each = layout::format_size(s[at]);
+    let (format, _) = start_of(s, at)?;
+    let each = layout::format_size(format);
     if each == 0 {
         return None;
     }
@@ -112,17 +149,11 @@ pub fn block_at(s: &[u8], at: usize) -> Option<Head>
 fn answer_at(s: &[u8], at: usize, id: u8) -> Option<Head>
     ensures { result ≡ block_by (response_block_fits id) s.now at }
 {
-    if s.len() < 2 {
+    let (format, count) = start_of(s, at)?;
+    if !layout::response_block_fits(id, format, count) {
         return None;
     }
-    if s.len() - 2 < at {
-        return None;
-    }
-    let f = s[at];
-    if !layout::response_block_fits(id, f, s[at + 1]) {
-        return None;
-    }
-    sized(s, at, layout::code_size(f))
+    sized(s, at, layout::code_size(format))
 }
 
 // The j-th value of the block of a change that stands at `at`.
@@ -132,94 +163,68 @@ pub fn value_at(s: &[u8], at: usize, j: usize) -> u32
     let Some(h) = block_at(s, at) else {
         return 0;
     };
-    if j < codes::wide(h.count) {
+    if j < usize::from(h.count) {
         codes::number_at(s, at + 2 + j * h.size, h.size)
     } else {
         0
     }
 }
 
-// Where n blocks of a change that start at `from` end. This walk and the next are two, so that neither looks up its rule at each block.
-fn change_end(s: &[u8], from: usize, n: usize) -> Walk
+// Where n blocks that start at `from` end, each of which passes the rule.
+fn blocks_end<R: Rule>(rule: &R, s: &[u8], from: usize, n: usize) -> Option<Reached>
     requires { from ≤ length s.now }
-    ensures { Walked s.now (map_got has_error ((times n (block change_block_fits)).read (drop from s.now))) result }
+    ensures { Walked s.now (map_got has_error ((times n (block (R.fits rule.now))).read (drop from s.now))) result }
 {
     let mut at = from;
-    let mut left = n;
     let mut error = false;
-    while 0 < left {
-        let Some(h) = block_at(s, at) else {
-            return Walk::Bad;
-        };
-        at = h.next;
-        error = codes::either(error, h.format == 0x44);
-        left -= 1;
+    for _ in 0..n {
+        let head = rule.block_at(s, at)?;
+        at = head.next;
+        error |= head.format == 0x44;
     }
-    Walk::At(at, error)
-}
-
-// Where n blocks of a response with the identifier `id` that start at `from` end.
-fn answer_end(s: &[u8], from: usize, n: usize, id: u8) -> Walk
-    requires { from ≤ length s.now }
-    ensures { Walked s.now (map_got has_error ((times n (block (response_block_fits id))).read (drop from s.now))) result }
-{
-    let mut at = from;
-    let mut left = n;
-    let mut error = false;
-    while 0 < left {
-        let Some(h) = answer_at(s, at, id) else {
-            return Walk::Bad;
-        };
-        at = h.next;
-        error = codes::either(error, h.format == 0x44);
-        left -= 1;
-    }
-    Walk::At(at, error)
+    Some(Reached { at, error })
 }
 
 // Whether a walk came to the end of the slice, and met an error where one is needed.
-fn whole(s: &[u8], w: Walk, need: bool) -> bool
-    requires { InBlock s.now w }
-    ensures { result ≡ is_whole (erring need (standing s.now w)) }
+fn whole(s: &[u8], reached: Option<Reached>, need: bool) -> bool
+    requires { InBlock s.now reached }
+    ensures { result ≡ is_whole (erring need (standing s.now reached)) }
 {
-    let Walk::At(e, error) = w else {
+    let Some(Reached { at, error }) = reached else {
         return false;
     };
-    if codes::either(!need, error) {
-        e == s.len()
-    } else {
-        false
-    }
+    (!need || error) && at == s.len()
+}
+
+// Whether a block is as long as blocks are, with a reference and a number of parameters in their ranges: what requests and responses share.
+fn framed(block: &[u8]) -> bool
+    ensures { IsTrue result ↔ Framed block.now }
+{
+    let [reference, _, _, count, ..] = *block else {
+        return false;
+    };
+    block.len() <= BLOCK_LIMIT && reference != 0 && (1..=MOST_PARAMETERS).contains(&count)
 }
 
 // Whether `block` is a readable request.
 pub fn request_readable(block: &[u8]) -> bool
     ensures { result ≡ readable block_limit request block.now }
 {
-    if BLOCK_LIMIT < block.len() {
-        return false;
-    }
-    if block.len() < 4 {
+    if !framed(block) {
         return false;
     }
     let id = block[1];
     let n = block[3];
-    if !codes::between(1, block[0], 255) {
+    if !layout::is_request(id) {
         return false;
     }
-    if !codes::between(1, id, 2) {
-        return false;
-    }
-    if !codes::between(1, n, MOST_PARAMETERS) {
-        return false;
-    }
-    let from = 4 + codes::wide(n) * 6;
+    let from = 4 + usize::from(n) * 6;
     if block.len() < from {
         return false;
     }
     whole(
         block,
-        change_end(block, from, layout::request_blocks(id, n)),
+        blocks_end(&Change, block, from, layout::request_blocks(id, n)),
         false,
     )
 }
@@ -228,26 +233,18 @@ pub fn request_readable(block: &[u8]) -> bool
 pub fn response_readable(block: &[u8]) -> bool
     ensures { result ≡ readable block_limit response block.now }
 {
-    if BLOCK_LIMIT < block.len() {
-        return false;
-    }
-    if block.len() < 4 {
+    if !framed(block) {
         return false;
     }
     let id = block[1];
     let n = block[3];
-    if !codes::between(1, block[0], 255) {
-        return false;
-    }
     if !layout::is_answer(id) {
         return false;
     }
-    if !codes::between(1, n, MOST_PARAMETERS) {
-        return false;
-    }
+    let rule = Answer { identifier: id };
     whole(
         block,
-        answer_end(block, 4, layout::response_blocks(id, n), id),
+        blocks_end(&rule, block, 4, layout::response_blocks(id, n)),
         0x81 <= id,
     )
 }

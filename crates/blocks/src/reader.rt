@@ -1,11 +1,15 @@
-// The address walk of a request: a struct that keeps the block and the place together, and thin functions over it.
+// The address walk of a request: a struct that keeps the block and the place together, and thin functions that give the next address.
 ghost use Rattle.std.specs.Prelude.{◌≡◌, ◌+◌, ◌≤◌, length, drop};
 ghost use Rattle.codes.specs.Code.{got};
 ghost use Rattle.blocks.specs.Request.{address};
-ghost use Rattle.blocks.specs.Place.{step_at};
+ghost use Rattle.blocks.specs.Place.{address_in, step_at, addresses_from};
+ghost use Rattle.std.specs.Iterator.{YieldsFirst, item_count};
 
 // Where the first address stands.
 pub const FIRST: usize = 4;
+
+// Bytes of an address.
+pub const SIZE: usize = 6;
 
 #[derive(Clone, Copy)]
 pub struct Address {
@@ -33,46 +37,54 @@ fn address_here(s: &[u8], at: usize) -> Address
     }
 }
 
-// The work: the address that stands at a place of a block, and the place after it.
-fn step_at(s: &[u8], at: usize) -> Option<(Address, usize)>
-    ensures { result ≡ step_at s.now at }
+// The address whose six bytes stand at a place, for who knows that it is one of the block's; zeros where they do not stand there.
+pub fn address_of(block: &[u8], at: usize) -> Address
+    ensures { result ≡ address_in block.now at }
 {
-    if s.len() < 6 {
-        return None;
+    if !codes::stands(block.len(), at, SIZE) {
+        return Address {
+            attribute: 0,
+            elements: 0,
+            pnu: 0,
+            subindex: 0,
+        };
     }
-    if s.len() - 6 < at {
-        return None;
-    }
-    if FIRST + codes::wide(codes::byte_at(s, 3)) * 6 < at + 6 {
-        return None;
-    }
-    Some((address_here(s, at), at + 6))
+    address_here(block, at)
 }
 
-// A reader of the block, at its first address.
-pub fn new<'a>(block: &'a [u8]) -> Reader<'a>
-    ensures { (result.block ≡ block.entry) × (result.at ≡ 4) }
-{
-    Reader { block, at: FIRST }
-}
-
-// The address where the reader stands.
-pub fn next<'a>(r: Reader<'a>) -> Option<(Address, usize)>
-    ensures { result ≡ step_at r.entry.block.now r.entry.at }
-{
-    step_at(r.block, r.at)
-}
-
-// The reader at another place.
-pub fn moved<'a>(r: Reader<'a>, at: usize) -> Reader<'a>
-    ensures { (result.block ≡ r.entry.block) × (result.at ≡ at) }
-{
-    Reader { block: r.block, at }
-}
-
-// The address that stands at a place of a block: what crates above walk with.
+// The address that stands at a place of a block, and the place after it: what crates above walk with.
 pub fn address_at(block: &[u8], at: usize) -> Option<(Address, usize)>
     ensures { result ≡ step_at block.now at }
 {
-    next(moved(new(block), at))
+    if !codes::stands(block.len(), at, 6) {
+        return None;
+    }
+    if FIRST + usize::from(codes::byte_at(block, 3)) * 6 < at + 6 {
+        return None;
+    }
+    Some((address_here(block, at), at + 6))
+}
+
+impl<'a> Reader<'a> {
+    // A reader of the block, at its first address.
+    pub fn new(block: &'a [u8]) -> Self
+        ensures { (result.block ≡ block.entry) × (result.at ≡ 4) }
+    {
+        Reader { block, at: FIRST }
+    }
+}
+
+// The addresses from where the reader stands on.
+impl<'a> Iterator for Reader<'a> {
+    type Item = Address;
+
+    ghost next_gives = { YieldsFirst (λ r. addresses_from r.block.now r.at) };
+
+    ghost remaining = { item_count (λ r. addresses_from r.block.now r.at) };
+
+    fn next(&mut self) -> Option<Address> {
+        let (address, after) = address_at(self.block, self.at)?;
+        self.at = after;
+        Some(address)
+    }
 }

@@ -11,13 +11,7 @@ use super::Header;
 pub fn put_header(out: &mut [u8], h: Header)
     ensures { out.new ≡ put out.old 0 (header_bytes h) }
 {
-    if out.len() < 4 {
-        return;
-    }
-    out[0] = h.reference;
-    out[1] = h.identifier;
-    out[2] = h.axis;
-    out[3] = h.count;
+    codes::put_bytes(out, 0, &[h.reference, h.identifier, h.axis, h.count]);
 }
 
 // Bytes of a block of n values of the format f, filled up.
@@ -33,10 +27,8 @@ fn put_values(out: &mut [u8], at: usize, size: usize, values: &[u32])
     requires { at + length values.now * size ≤ length out.old }
     ensures { out.new ≡ put out.old at (write_all (number_bytes size) values.now) }
 {
-    let mut j: usize = 0;
-    while j < values.len() {
-        codes::put_number(out, at + j * size, size, values[j]);
-        j += 1;
+    for (j, value) in values.iter().enumerate() {
+        codes::put_number(out, at + j * size, size, *value);
     }
 }
 
@@ -54,16 +46,11 @@ fn put_fill(out: &mut [u8], at: usize, fill: usize)
 pub fn put_block(out: &mut [u8], at: usize, f: u8, values: &[u32])
     ensures { out.new ≡ put_block out.old at (record { format = f; values = values.now }) }
 {
-    if 255 < values.len() {
+    let Ok(n) = u8::try_from(values.len()) else {
         return;
-    }
-    let n = values.len() as u8;
+    };
     let z = super::layout::sizes_of(f, n);
-    let bytes = 2 + z.bare + z.fill;
-    if out.len() < bytes {
-        return;
-    }
-    if out.len() - bytes < at {
+    if !codes::stands(out.len(), at, 2 + z.bare + z.fill) {
         return;
     }
     out[at] = f;
@@ -83,5 +70,5 @@ pub fn put_empty(out: &mut [u8], at: usize)
 pub fn put_error(out: &mut [u8], at: usize, error: u16)
     ensures { out.new ≡ put out.old at (0x44 ∷ 1 ∷ number_bytes 2 error) }
 {
-    codes::put_number(out, at, 4, 0x44010000 + (error as u32));
+    codes::put_number(out, at, 4, 0x44010000 + u32::from(error));
 }

@@ -3,7 +3,7 @@
 use mathlib.Core.Path.{◌≡◌, refl, sym, ◌∙◌, ap}
 use mathlib.Core.Bool.{Bool, true, false, cond}
 use mathlib.Core.List.{List, [], ◌++◌, append-nil, append_assoc}
-use Prim.Native.Nat.{ℕ, zero, suc, ◌+◌, ◌*◌, ◌≤◌, ◌<◌, ◌^◌}
+use Prim.Native.Nat.{ℕ, zero, suc, ◌+◌, ◌-◌, ◌*◌, ◌≤◌, ◌<◌, ◌^◌}
 use native.Mathlib.Omega.{arith}
 use native.Mathlib.Nat.{one-le-pow, zero-add, suc-mul}
 use native.Mathlib.Decide.{dec_le}
@@ -101,6 +101,15 @@ number_within w s at n k h room =
     ap (λ (l : List ℕ). number_at w l k) (sym (append-nil (take n d)))
     ∙ (number_front w k (take n d) [] (drop n d) (omega arith)
     ∙ (ap (λ (l : List ℕ). number_at w l k) (take-append-drop n d) ∙ rw (drop-drop k at s) refl))
+
+-- the number that the part from at to at + w is, is the list's own there
+pub number_of_part : (w : ℕ) (s : List ℕ) (at x : ℕ) → w ≤ 4 → at + w ≤ length s → let p = take (at + w - at) (drop at s) in (word (length p)).read p ≡ got x [] → x ≡ number_at w s at
+number_of_part w s at x narrow room =
+    let n : at + w - at ≡ w = omega arith in
+    let long : length (take w (drop at s)) ≡ w = length-take-le w (drop at s) (omega (arith, length-drop at s)) in
+    let z : at + 0 ≡ at = omega arith in
+    rw (n, long)
+    (λ e. sym (number_is w (take w (drop at s)) 0 x [] narrow e) ∙ (number_within w s at w 0 (omega arith) room ∙ ap (number_at w s) z))
 
 -- and a number elsewhere is as it was
 module _ (w : ℕ) (l : List ℕ) (at : ℕ) (bs : List ℕ) (k : ℕ) where

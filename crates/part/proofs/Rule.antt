@@ -13,7 +13,8 @@ use Rattle.versions.specs.Fit.{versions_fit}
 use Rattle.part.specs.Layout.{state_at, part_size, versions}
 use Rattle.part.specs.Record.{faults_of}
 use Rattle.catalogue.specs.Element.{every_row}
-use Rattle.part.specs.WellFormed.{is_state, limits_fit, fixed_fit, waiting_fits, unused_fit, well_formed}
+use Rattle.part.specs.WellFormed.{limits_fit, fixed_fit, waiting_fits, unused_fit, well_formed}
+use Rattle.drive.specs.States.{is_state}
 
 abbrev all : Bool → Bool → Bool → Bool → Bool → Bool → Bool → Bool → Bool
 all size state limits fixed faults waits unused kept = size && state && limits && fixed && faults && waits && unused && kept

@@ -5,30 +5,11 @@ ghost use Rattle.catalogue.specs.Table.{rows};
 ghost use Rattle.part.specs.Layout.{part_size};
 ghost use Rattle.part.specs.Record.{words_at, faults_of};
 ghost use Rattle.catalogue.specs.Element.{every_row};
-ghost use Rattle.part.specs.WellFormed.{is_state, limits_fit, fixed_fit, waiting_fits, unused_fit, well_formed};
+ghost use Rattle.part.specs.WellFormed.{limits_fit, fixed_fit, waiting_fits, unused_fit, well_formed};
+ghost use Rattle.drive.specs.States.{is_state};
 
 use catalogue::Row;
-
-fn is_state(n: u8) -> bool
-    ensures { result ≡ is_state n }
-{
-    if n == 1 {
-        return true;
-    }
-    if n == 2 {
-        return true;
-    }
-    if n == 3 {
-        return true;
-    }
-    if n == 4 {
-        return true;
-    }
-    if n == 51 {
-        return true;
-    }
-    n == 52
-}
+use drive::State;
 
 // The elements of a writable row are inside its limits.
 fn limits_fit(part: &[u8], r: Row) -> bool
@@ -259,7 +240,7 @@ pub fn well_formed(part: &[u8], axis: u8) -> bool
     if part.len() != super::SIZE {
         return false;
     }
-    if !is_state(codes::byte_at(part, super::STATE)) {
+    if State::try_from(codes::byte_at(part, super::STATE)).is_err() {
         return false;
     }
     if !rows_fit(part) {

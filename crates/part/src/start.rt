@@ -34,7 +34,7 @@ pub fn fresh(part: &mut [u8])
         return;
     }
     super::runs::clear_bytes(part, 0, super::SIZE);
-    codes::put_number(part, super::STATE, 1, super::number_of(State::S1) as u32);
+    codes::put_number(part, super::STATE, 1, u32::from(u8::from(State::S1)));
     fresh_rows(part);
     versions::fill_within(part, super::VERSIONS);
 }

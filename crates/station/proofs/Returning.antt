@@ -1,6 +1,6 @@
 -- What a list and a going back answer and leave, by the way they take.
-use mathlib.Core.Path.{◌≡◌, refl, sym, ap, ◌∙◌}
-use mathlib.Core.Bool.{true, false, and-eq-true_iff}
+use mathlib.Core.Path.{◌≡◌, sym, ap, ◌∙◌}
+use mathlib.Core.Bool.{true, and-eq-true_iff}
 use mathlib.Core.List.{List}
 use Prim.Native.Nat.{ℕ, suc, ◌+◌, ◌-◌, ◌≤◌}
 use native.Mathlib.Numerals.{add-one}
@@ -8,13 +8,13 @@ use native.Mathlib.Omega.{arith}
 use lib.Dec.{leb}
 use lib.ListN.{length, take, drop, length-drop}
 use lib.Seq.{take_all}
-use borrow.Author.Tests.{eq-eqb, ne_eqb, leb-true}
-use Rattle.versions.specs.Layout.{last_used, kept_count, oldest}
+use borrow.Author.Tests.{ne_eqb, leb-true}
+use Rattle.versions.specs.Layout.{last_used, oldest}
 use Rattle.versions.specs.Version.{is_kept}
 use Rattle.part.specs.Layout.{versions_at, versions, with_version, with_settings}
 use Rattle.part.specs.WellFormed.{well_formed}
 use Rattle.part.proofs.Rule.{form_of}
-use Rattle.station.specs.Versions.{refused_list, list_answer, refused_return, return_refusal, return_answer, return_part}
+use Rattle.station.specs.Versions.{return_refusal, return_answer, return_part}
 use Rattle.station.proofs.VersionsOwes.{returned}
 
 -- the versions, as the code lends them

@@ -6,7 +6,8 @@ use Rattle.drive.specs.declared.Input.{Input}
 use Rattle.drive.specs.declared.Output.{Output}
 use Rattle.drive.specs.Cycle.{bit, cycle_of}
 use Rattle.catalogue.specs.Table.{offset_of}
-use Rattle.part.specs.Record.{number_of, drive_of, put_drive}
+use Rattle.part.specs.Record.{drive_of, put_drive}
+use Rattle.drive.specs.States.{number_of}
 use Rattle.part.specs.WellFormed.{well_formed}
 use Rattle.station.specs.declared.CycleDone.{CycleDone}
 use Rattle.station.specs.declared.Sent.{Sent}

@@ -6,7 +6,7 @@ ghost use Rattle.station.specs.Cycle.{input_of, refused_cycle, cycled, cycle_ans
 ghost use Rattle.station.specs.Inner.{told};
 
 use super::{CycleDone, Cycled, Refusal, Sent};
-use drive::{Input, Motion, N2, Output};
+use drive::{Drive, Input, Motion, N2, Output};
 
 // What a cycle is given, with the axis's parameters.
 fn input_of(part: &[u8], sent: Sent) -> Input
@@ -31,7 +31,7 @@ fn answered(output: Output) -> CycleDone
     let told = Cycled {
         rpm: output.speed.0,
         status: output.status,
-        state: part::number_of(output.state),
+        state: u8::from(output.state),
         number: 0,
     };
     CycleDone {
@@ -69,7 +69,8 @@ pub(crate) fn cycle_on(part: &mut [u8], k: u8, sent: Sent) -> Result<CycleDone, 
     if drive::is_quiet(motion.word, empty, input) { // as nearly every cycle is
         return Ok(quiet_cycle(part, motion, !empty, input));
     }
-    let done = drive::cycle_lent(drive::with_faults(motion, part::load_faults(part)), input);
+    let faults = part::load_faults(part);
+    let done = drive::cycle_lent(Drive { motion, faults }, input);
     part::store(part, done.drive);
     Ok(answered(done.output))
 }

@@ -32,24 +32,24 @@ module _ (s : List ℕ) (at bare each : ℕ) (sized : each ≡ value_size (get_o
 
 pub overflow_mul-bare : goal.overflow_mul-bare
 overflow_mul-bare c =
-    omega (arith, small c.wide.result c.args.each (omega (arith, c.wide.ensures, c.type_inv.s (c.args.at + 1))) (rw c.requires.1 (size_small (get_or c.args.s.now c.args.at 0))))
+    omega (arith, small c.from.result c.args.each (omega (arith, c.from.ensures, c.type_inv.s (c.args.at + 1))) (rw c.requires.1 (size_small (get_or c.args.s.now c.args.at 0))))
 
 pub overflow_add-filled : goal.overflow_add-filled
 overflow_add-filled c =
-    omega (arith, small c.wide.result c.args.each (omega (arith, c.wide.ensures, c.type_inv.s (c.args.at + 1))) (rw c.requires.1 (size_small (get_or c.args.s.now c.args.at 0))))
+    omega (arith, small c.from.result c.args.each (omega (arith, c.from.ensures, c.type_inv.s (c.args.at + 1))) (rw c.requires.1 (size_small (get_or c.args.s.now c.args.at 0))))
 
 pub returns-then-s-at : goal.returns-then-s-at
 returns-then-s-at c fits e =
     let s = c.args.s.now in
     let y : Bytes s = λ i. omega (arith, c.type_inv.s i) in
-    let all = ap₂ (λ (x w : ℕ). x * w) c.wide.ensures c.requires.1 in
+    let all = ap₂ (λ (x w : ℕ). x * w) c.from.ensures c.requires.1 in
     block_short fits s y c.args.at c.requires.0 e (omega (arith, filled-up s c.args.at _ c.args.each c.requires.1 all))
 
 pub returns-then-not-is_filled : goal.returns-then-not-is_filled
 returns-then-not-is_filled c fits e =
     let s = c.args.s.now in
     let y : Bytes s = λ i. omega (arith, c.type_inv.s i) in
-    let all = ap₂ (λ (x w : ℕ). x * w) c.wide.ensures c.requires.1 in
+    let all = ap₂ (λ (x w : ℕ). x * w) c.from.ensures c.requires.1 in
     block_unfilled fits s y c.args.at c.requires.0 e (omega (arith, filled-up s c.args.at _ c.args.each c.requires.1 all))
     (tested s c.args.at _ c.args.each c.requires.1 all ∙ (sym c.is_filled.ensures ∙ c.if-not-is_filled.true))
 
@@ -57,7 +57,7 @@ pub returns : goal.returns
 returns c fits e =
     let s = c.args.s.now in
     let y : Bytes s = λ i. omega (arith, c.type_inv.s i) in
-    let all = ap₂ (λ (x w : ℕ). x * w) c.wide.ensures c.requires.1 in
+    let all = ap₂ (λ (x w : ℕ). x * w) c.from.ensures c.requires.1 in
     head_is s c.args.at _ c.args.each c.requires.1 all
     ∙ block_long fits s y c.args.at c.requires.0 e (omega (arith, filled-up s c.args.at _ c.args.each c.requires.1 all))
     (tested s c.args.at _ c.args.each c.requires.1 all ∙ (sym c.is_filled.ensures ∙ c.if-not-is_filled.false))

@@ -22,20 +22,20 @@ overflow_mul-j c =
     let st = block_stands change_block_fits a.s.now a.at c.in-Some.h (sym c.block_at.ensures ∙ c.in-Some.is) in
     omega (arith, value_room a.s.now a.at a.j c.in-Some.h st (omega arith))
 
-pub overflow_add-at-then-j-wide : goal.overflow_add-at-then-j-wide
-overflow_add-at-then-j-wide c =
+pub overflow_add-at-then-j-from : goal.overflow_add-at-then-j-from
+overflow_add-at-then-j-from c =
     let a = c.args in
     let st = block_stands change_block_fits a.s.now a.at c.in-Some.h (sym c.block_at.ensures ∙ c.in-Some.is) in
     omega (arith, value_room a.s.now a.at a.j c.in-Some.h st (omega arith))
 
-pub returns-then-j-wide : goal.returns-then-j-wide
-returns-then-j-wide c =
+pub returns-then-j-from : goal.returns-then-j-from
+returns-then-j-from c =
     let a = c.args in
     let st = block_stands change_block_fits a.s.now a.at c.in-Some.h (sym c.block_at.ensures ∙ c.in-Some.is) in
     c.number_at.ensures ∙ value_here a.s.now a.at a.j c.in-Some.h st (omega arith)
 
-pub returns-else-j-wide : goal.returns-else-j-wide
-returns-else-j-wide c =
+pub returns-else-j-from : goal.returns-else-j-from
+returns-else-j-from c =
     let a = c.args in
     let st = block_stands change_block_fits a.s.now a.at c.in-Some.h (sym c.block_at.ensures ∙ c.in-Some.is) in
     value_past a.s.now a.at a.j c.in-Some.h st (omega arith)

@@ -1,26 +1,21 @@
 -- Each test that fails says why there is no such number in the slice.
-use Rattle.codes.proofs.Number.{number_is, number_wide, number_short}
+use Rattle.codes.proofs.Number.{number_of_part, number_wide, number_short}
 use Rattle.codes.proofs.Fixed.{Bytes}
 use mathlib.Core.Path.{sym}
 use native.Mathlib.Omega.{arith}
 use Rattle.codes.proofs.number_at.Goals as goal
+use Rattle.codes.proofs.number_at.Goals.{else-w-le4-via-then-w-le4+else-stands, else-w-le4-via-else-w-le4}
 
-pub returns-then-w-gt4 : goal.returns-then-w-gt4
-returns-then-w-gt4 c = let a = c.args in sym (number_wide a.w a.s.now a.at (omega arith))
-
-pub returns-then-s-w : goal.returns-then-s-w
-returns-then-s-w c =
+pub returns-then-stands : goal.returns-then-stands
+returns-then-stands c =
     let a = c.args in
-    let b : Bytes a.s.now = λ i. omega (arith, c.type_inv.s i) in
-    sym (number_short a.w a.s.now b a.at (omega arith))
+    number_of_part a.w a.s.now a.at c.number_of.result (omega arith) (omega arith) c.number_of.ensures
 
-pub returns-then-s-w-2 : goal.returns-then-s-w-2
-returns-then-s-w-2 c =
+pub returns-else-w-le4 : goal.returns-else-w-le4
+returns-else-w-le4 c =
     let a = c.args in
-    let b : Bytes a.s.now = λ i. omega (arith, c.type_inv.s i) in
-    sym (number_short a.w a.s.now b a.at (omega arith))
-
-pub returns : goal.returns
-returns c =
-    let a = c.args in
-    sym (number_is a.w a.s.now a.at c.number_here.result _ (omega arith) c.number_here.ensures)
+    let y : Bytes a.s.now = λ i. omega (arith, c.type_inv.s i) in
+    elim c.else-w-le4.branch [
+      | else-w-le4-via-then-w-le4+else-stands w ↦ sym (number_short a.w a.s.now y a.at (grind arith))
+      | else-w-le4-via-else-w-le4 w ↦ sym (number_wide a.w a.s.now a.at (omega arith))
+    ]

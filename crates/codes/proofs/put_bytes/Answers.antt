@@ -1,29 +1,19 @@
--- What does not fit is not put; else byte by byte, each after those that are put.
-use Rattle.codes.proofs.Put.{put_none, put_too_long}
-use Rattle.codes.proofs.Stores.{copied_next}
-use lib.ListN.{get_or, set, length-set}
+-- What does not fit is not put; else it stands where the part stood.
+use Rattle.codes.proofs.Put.{put_fits, put_too_long}
+use mathlib.Core.Path.{sym, ◌∙◌, ap}
+use mathlib.Core.List.{List, ◌++◌}
 use Prim.Native.Nat.{ℕ, ◌+◌}
-use mathlib.Core.List.{List}
-use mathlib.Core.Path.{refl, sym, ◌∙◌, ap}
+use lib.ListN.{length, take}
 use native.Mathlib.Omega.{arith}
-use borrow.Author.Rules.{rules}
+use borrow.Rule.Slice.PartMut.{Post-is}
 use Rattle.codes.proofs.put_bytes.Goals as goal
 
-pub returns-then-out-from : goal.returns-then-out-from
-returns-then-out-from c = let a = c.args in sym (put_too_long a.out.now a.at a.from.now (omega arith))
-
-pub returns-then-out-from-2 : goal.returns-then-out-from-2
-returns-then-out-from-2 c = let a = c.args in sym (put_too_long a.out.now a.at a.from.now (omega arith))
-
-pub loop-i-init : goal.loop-i-init
-loop-i-init c = (search rules, refl, sym (put_none _ _))
-
-pub loop-i-preserved : goal.loop-i-preserved
-loop-i-preserved c =
+pub returns-then-stands : goal.returns-then-stands
+returns-then-stands c =
     let a = c.args in
-    let l = c.loop-i in (
-      search rules,
-      simp length-set l.invariant.1,
-      ap (λ (x : List ℕ). set x (a.at + l.i) (get_or a.from.now l.i 0)) l.invariant.2
-          ∙ copied_next a.out.now a.at a.from.now l.i (omega arith) (omega arith),
-    )
+    rw c.copy_from_slice.ensures.after
+    (ap (λ (l : List ℕ). take a.at a.out.now ++ (a.from.now ++ l)) (Post-is a.at (a.at + length a.from.now) a.out.now (omega arith))
+    ∙ sym (put_fits a.out.now a.at a.from.now (omega arith)))
+
+pub returns-else-stands : goal.returns-else-stands
+returns-else-stands c = sym (put_too_long c.args.out.now c.args.at c.args.from.now (grind arith))

@@ -1,5 +1,4 @@
 -- The catalogue's row, or none.
-use mathlib.Core.Path.{sym, ◌∙◌}
 use Rattle.access.proofs.Checks.{check_nothing, check_row}
 use Rattle.access.proofs.address.check.Goals as goal
 

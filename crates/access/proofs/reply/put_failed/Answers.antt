@@ -3,7 +3,6 @@ use mathlib.Core.Path.{refl, sym, ◌∙◌, ap}
 use Prim.Native.Nat.{ℕ, ◌+◌}
 use Rattle.codes.specs.Number.{put}
 use Rattle.blocks.proofs.Parts.{error_bytes}
-use Rattle.access.specs.Address.{error_number}
 use Rattle.access.proofs.Room.{error_size}
 use Rattle.access.proofs.reply.put_failed.Goals as goal
 

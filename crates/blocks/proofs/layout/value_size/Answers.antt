@@ -7,7 +7,7 @@ use Rattle.blocks.proofs.layout.value_size.Goals as goal
 pub returns-then-f-lt65 : goal.returns-then-f-lt65
 returns-then-f-lt65 c =
     let f = c.args.f in
-    (c.type_size.ensures.0 ∙ sym (value_format f (λ e. omega (arith, e))), c.type_size.ensures.1)
+    c.type_size.ensures ∙ sym (value_format f (λ e. omega (arith, e)))
 
 pub returns-else-f-lt65 : goal.returns-else-f-lt65
-returns-else-f-lt65 c = (c.code_size.ensures.0 ∙ code_value c.args.f (omega arith), c.code_size.ensures.1)
+returns-else-f-lt65 c = c.code_size.ensures.0 ∙ code_value c.args.f (omega arith)

@@ -6,4 +6,5 @@ use Rattle.blocks.proofs.writer.block_size.Goals as goal
 pub returns : goal.returns
 returns c =
     let a = c.args in
-    rw c.sizes_of-z.ensures.0 (omega (arith, values_size_lem a.f a.n))
+    let z = c.sizes_of-z.ensures in
+    omega (arith, z.1, z.2, values_size_lem a.f a.n)

@@ -1,25 +1,21 @@
--- What is too many or too long is not put; else a format and a count stored, with the values and what fills them up after them, are the block.
-use Rattle.blocks.specs.declared.layout.Sizes.{Sizes}
+-- What is too long is not put; else a format and a count stored, with the values and what fills them up after them, are the block.
 use Rattle.blocks.proofs.Parts.{block_too_long, block_stored}
+use lib.ListN.{length}
 use native.Mathlib.Omega.{arith}
-use mathlib.Core.Path.{sym, ap}
+use mathlib.Core.Path.{◌≡◌, sym}
 use Rattle.blocks.proofs.writer.put_block.Goals as goal
 
-pub returns-then-out-bytes : goal.returns-then-out-bytes
-returns-then-out-bytes c =
+pub returns-then-not-stands : goal.returns-then-not-stands
+returns-then-not-stands c =
     let a = c.args in
-    let z = c.sizes_of-z.ensures.0 in
-    sym (block_too_long a.out.now a.at a.f a.values.now (omega arith) (omega (arith, ap (λ (x : Sizes). x.bare) z, ap (λ (x : Sizes). x.fill) z)))
-
-pub returns-then-out-bytes-2 : goal.returns-then-out-bytes-2
-returns-then-out-bytes-2 c =
-    let a = c.args in
-    let z = c.sizes_of-z.ensures.0 in
-    sym (block_too_long a.out.now a.at a.f a.values.now (omega arith) (omega (arith, ap (λ (x : Sizes). x.bare) z, ap (λ (x : Sizes). x.fill) z)))
+    let n : c.in-Ok.n ≡ length a.values.now = omega (arith, c.in-Ok.ensures) in
+    let z = rw n at c.sizes_of-z.ensures in
+    sym (block_too_long a.out.now a.at a.f a.values.now (omega (arith, c.in-Ok.ensures)) (grind (arith, z.1, z.2)))
 
 pub returns : goal.returns
 returns c =
     let a = c.args in
-    let z = c.sizes_of-z.ensures.0 in
-    rw (c.put_fill.ensures, c.put_values.ensures, z)
-    (block_stored a.out.now a.at a.f a.values.now (omega arith) (omega (arith, ap (λ (x : Sizes). x.bare) z, ap (λ (x : Sizes). x.fill) z)))
+    let n : c.in-Ok.n ≡ length a.values.now = omega (arith, c.in-Ok.ensures) in
+    let z = rw n at c.sizes_of-z.ensures in
+    rw (c.put_fill.ensures, c.put_values.ensures, z.0, z.1, z.2, n)
+    (block_stored a.out.now a.at a.f a.values.now (omega (arith, c.in-Ok.ensures)) (omega (arith, z.1, z.2)))

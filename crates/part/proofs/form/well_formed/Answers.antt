@@ -1,9 +1,10 @@
 -- The same tests in the same order; the first that fails decides.
+use Rattle.drive.proofs.Number.{state_known}
 use Rattle.part.proofs.Rule.{wrong_size, no_state, after_state}
 use Rattle.versions.specs.Fit.{versions_fit}
 use Rattle.part.specs.Layout.{versions_at, versions}
-use Rattle.part.specs.WellFormed.{is_state, waiting_fits, unused_fit}
-use mathlib.Core.Bool.{Bool, true, false, ◌&&◌}
+use Rattle.part.specs.WellFormed.{waiting_fits, unused_fit}
+use mathlib.Core.Bool.{Bool, true, false, not, ◌&&◌}
 use mathlib.Core.Path.{◌≡◌, sym, ◌∙◌, ap}
 use Prim.Native.Nat.{◌-◌}
 use native.Mathlib.Omega.{arith}
@@ -19,17 +20,17 @@ returns-then-part-ne-SIZE c =
     let a = c.args in
     wrong_size a.axis a.part.now c.if-part-ne-SIZE.true
 
-pub returns-then-not-is_state : goal.returns-then-not-is_state
+pub returns-then-is_err : goal.returns-then-is_err
 unfolding parameter_bytes rows last_at
-returns-then-not-is_state c =
+returns-then-is_err c =
     let a = c.args in
-    no_state a.axis a.part.now c.if-part-ne-SIZE.false (ap is_state (sym c.byte_at.ensures) ∙ sym c.is_state.ensures ∙ c.if-not-is_state.true)
+    no_state a.axis a.part.now c.if-part-ne-SIZE.false (state_known c.byte_at.ensures c.try_from.ensures c.is_err.ensures.value ∙ ap not c.if-is_err.true)
 
 pub returns-then-not-rows_fit : goal.returns-then-not-rows_fit
 unfolding parameter_bytes rows last_at
 returns-then-not-rows_fit c =
     let a = c.args in
-    after_state a.axis a.part.now c.if-part-ne-SIZE.false (ap is_state (sym c.byte_at.ensures) ∙ sym c.is_state.ensures ∙ c.if-not-is_state.false) false (sym (c.if-not-rows_fit.true) ∙ c.rows_fit.ensures)
+    after_state a.axis a.part.now c.if-part-ne-SIZE.false (state_known c.byte_at.ensures c.try_from.ensures c.is_err.ensures.value ∙ ap not c.if-is_err.false) false (sym (c.if-not-rows_fit.true) ∙ c.rows_fit.ensures)
 
 pub faults_fit-requires : goal.faults_fit-requires
 unfolding parameter_bytes rows last_at
@@ -41,7 +42,7 @@ returns-then-not-faults_fit c =
     let a = c.args in
     let p = a.part.now in
     ap (λ (f : Bool). true && f && waiting_fits a.axis p && unused_fit p && versions_fit (versions p)) (sym (c.if-not-faults_fit.true) ∙ c.faults_fit.ensures)
-    ∙ after_state a.axis p c.if-part-ne-SIZE.false (ap is_state (sym c.byte_at.ensures) ∙ sym c.is_state.ensures ∙ c.if-not-is_state.false) true (sym (c.if-not-rows_fit.false) ∙ c.rows_fit.ensures)
+    ∙ after_state a.axis p c.if-part-ne-SIZE.false (state_known c.byte_at.ensures c.try_from.ensures c.is_err.ensures.value ∙ ap not c.if-is_err.false) true (sym (c.if-not-rows_fit.false) ∙ c.rows_fit.ensures)
 
 pub waiting_fits-requires : goal.waiting_fits-requires
 unfolding parameter_bytes rows last_at
@@ -56,7 +57,7 @@ returns-then-not-waiting_fits c =
     let waits = sym (c.if-not-waiting_fits.true) ∙ c.waiting_fits.ensures in
     ap (λ (w : Bool). true && true && w && unused_fit p && versions_fit (versions p)) waits
     ∙ (ap (λ (f : Bool). true && f && waiting_fits a.axis p && unused_fit p && versions_fit (versions p)) faults
-    ∙ after_state a.axis p c.if-part-ne-SIZE.false (ap is_state (sym c.byte_at.ensures) ∙ sym c.is_state.ensures ∙ c.if-not-is_state.false) true (sym (c.if-not-rows_fit.false) ∙ c.rows_fit.ensures))
+    ∙ after_state a.axis p c.if-part-ne-SIZE.false (state_known c.byte_at.ensures c.try_from.ensures c.is_err.ensures.value ∙ ap not c.if-is_err.false) true (sym (c.if-not-rows_fit.false) ∙ c.rows_fit.ensures))
 
 pub unused_fits-requires : goal.unused_fits-requires
 unfolding parameter_bytes rows last_at
@@ -73,7 +74,7 @@ returns-then-not-unused_fits c =
     ap (λ (u : Bool). true && true && true && u && versions_fit (versions p)) unused
     ∙ (ap (λ (w : Bool). true && true && w && unused_fit p && versions_fit (versions p)) waits
     ∙ (ap (λ (f : Bool). true && f && waiting_fits a.axis p && unused_fit p && versions_fit (versions p)) faults
-    ∙ after_state a.axis p c.if-part-ne-SIZE.false (ap is_state (sym c.byte_at.ensures) ∙ sym c.is_state.ensures ∙ c.if-not-is_state.false) true (sym (c.if-not-rows_fit.false) ∙ c.rows_fit.ensures)))
+    ∙ after_state a.axis p c.if-part-ne-SIZE.false (state_known c.byte_at.ensures c.try_from.ensures c.is_err.ensures.value ∙ ap not c.if-is_err.false) true (sym (c.if-not-rows_fit.false) ∙ c.rows_fit.ensures)))
 
 pub returns : goal.returns
 unfolding parameter_bytes rows last_at
@@ -89,4 +90,4 @@ returns c =
     ∙ (ap (λ (u : Bool). true && true && true && u && versions_fit (versions p)) unused
     ∙ (ap (λ (w : Bool). true && true && w && unused_fit p && versions_fit (versions p)) waits
     ∙ (ap (λ (f : Bool). true && f && waiting_fits a.axis p && unused_fit p && versions_fit (versions p)) faults
-    ∙ after_state a.axis p c.if-part-ne-SIZE.false (ap is_state (sym c.byte_at.ensures) ∙ sym c.is_state.ensures ∙ c.if-not-is_state.false) true (sym (c.if-not-rows_fit.false) ∙ c.rows_fit.ensures)))))
+    ∙ after_state a.axis p c.if-part-ne-SIZE.false (state_known c.byte_at.ensures c.try_from.ensures c.is_err.ensures.value ∙ ap not c.if-is_err.false) true (sym (c.if-not-rows_fit.false) ∙ c.rows_fit.ensures)))))

@@ -7,15 +7,11 @@ use Prim.Native.Nat.{ℕ}
 use Rattle.catalogue.specs.Table.{rows, find_of, offset_of}
 use native.Mathlib.Omega.{arith}
 use mathlib.Core.Path.{◌∙◌, ap}
-use borrow.Author.Rules.{rules}
 use Rattle.part.proofs.record.codes_of.Goals as goal
 
 pub loop-i-preserved : goal.loop-i-preserved
 unfolding offset_of find_of rows
 loop-i-preserved c =
-    let p = c.args.part.now in
-    let l = c.loop-i in (
-      search rules,
-      ap (λ (x : List ℕ). set x l.i c.word_at.result) l.invariant.1
-          ∙ words_next buffer_codes p (offset_of 947) l.i c.word_at.result (omega arith) c.word_at.ensures,
-    )
+    let l = c.loop-i in
+    ap (λ (x : List ℕ). set x l.i c.word_at.result) l.invariant
+    ∙ words_next buffer_codes c.args.part.now (offset_of 947) l.i c.word_at.result (omega arith) c.word_at.ensures

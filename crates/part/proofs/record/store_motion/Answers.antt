@@ -8,7 +8,7 @@ use Rattle.part.proofs.record.store_motion.Goals as goal
 pub returns : goal.returns
 unfolding offset_of find_of rows parameter_bytes
 returns c =
-    let n = c.number_of in
+    let n = c.from in
     let small : n.result < 256 = omega (arith, n.type_inv) in
     rw (
       c.put_speed-3.ensures,
@@ -17,6 +17,7 @@ returns c =
       c.put_speed.ensures,
       c.put_word.ensures,
       c.put_number.ensures,
+      c.from-2.ensures,
       byte_written n.result small,
       n.ensures,
     )

@@ -20,8 +20,8 @@ pub returns : goal.returns
 unfolding parameter_bytes rows last_at
 returns c =
     let p = c.args.part.now in
-    let n = c.number_of in
+    let n = c.from-2 in
     let cleared = c.put_number.ensures ∙ ap (λ (l : List ℕ). put l state_at ((word 1).write n.result)) c.clear_bytes.ensures in
     c.fill_within.ensures
     ∙ (ap (filled_within versions_at) (c.fresh_rows.ensures ∙ ap (fresh_rows rows) cleared)
-    ∙ made_fresh p n.result c.if-part-ne-SIZE.false n.ensures)
+    ∙ made_fresh p n.result c.if-part-ne-SIZE.false (n.ensures ∙ c.from.ensures))

@@ -5,7 +5,6 @@ use native.Mathlib.Omega.{arith}
 use Rattle.catalogue.specs.Table.{rows, parameter_bytes}
 use Rattle.versions.specs.Layout.{last_at}
 use Rattle.station.proofs.Frames.{handed}
-use borrow.Author.Rules.{rules}
 use Rattle.station.proofs.part_frame.read_on.Goals as goal
 
 pub returns : goal.returns
