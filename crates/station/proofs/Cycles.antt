@@ -2,8 +2,8 @@
 use mathlib.Core.Path.{◌≡◌, refl, sym, ap, ◌∙◌}
 use mathlib.Core.Bool.{true, false, not}
 use mathlib.Core.List.{List}
-use Prim.Native.Nat.{ℕ, ◌≤◌, ◌<◌}
-use borrow.Author.Tests.{lt-ltb, le-ltb}
+use Prim.Native.Nat.{ℕ, ◌≤◌}
+use borrow.Author.Tests.{le-ltb}
 use Rattle.codes.proofs.Fixed.{Bytes}
 use Rattle.drive.specs.declared.CycleEnd.{CycleEnd}
 use Rattle.drive.specs.Faults.{is_empty_of}
@@ -16,7 +16,7 @@ use Rattle.part.proofs.Rule.{form_of}
 use Rattle.part.proofs.Laws.{motion_stored}
 use Rattle.station.specs.Laws.{TellsWhatItDid}
 use Rattle.station.specs.declared.Sent.{Sent}
-use Rattle.station.specs.Cycle.{input_of, cycle_refusal, refused_cycle, cycled, cycle_answer, cycle_part}
+use Rattle.station.specs.Cycle.{input_of, cycle_refusal, cycled, cycle_answer, cycle_part}
 
 -- the two halves of a drive record that are read from a part are the whole of it
 pub loaded_whole : (p : List ℕ) → with_faults (motion_of (drive_of p)) (faults_of p) ≡ drive_of p
@@ -24,14 +24,6 @@ unfolding drive_of
 loaded_whole p = refl
 
 module _ (k : ℕ) (i : Sent) (p : List ℕ) where
-  pub unformed : well_formed k p ≡ false → (refused_cycle 2 ≡ cycle_answer k i p) × (p ≡ cycle_part k i p)
-  unfolding cycle_refusal cycle_answer cycle_part
-  unformed w = rw w (refl, refl)
-
-  pub flagged : well_formed k p ≡ true → 3 < i.flags → (refused_cycle 12 ≡ cycle_answer k i p) × (p ≡ cycle_part k i p)
-  unfolding cycle_refusal cycle_answer cycle_part
-  flagged w h = rw (w, lt-ltb 3 i.flags h) (refl, refl)
-
   pub cycles :
       well_formed k p ≡ true → i.flags ≤ 3
       → (cycled (cycle_of (drive_of p) (input_of i p)).output ≡ cycle_answer k i p)

@@ -1,6 +1,6 @@
 -- What a list and a going back answer and leave, by the way they take.
-use mathlib.Core.Path.{◌≡◌, refl, sym, ap, ◌∙◌}
-use mathlib.Core.Bool.{true, false, and-eq-true_iff}
+use mathlib.Core.Path.{◌≡◌, sym, ap, ◌∙◌}
+use mathlib.Core.Bool.{true, and-eq-true_iff}
 use mathlib.Core.List.{List}
 use Prim.Native.Nat.{ℕ, suc, ◌+◌, ◌-◌, ◌≤◌}
 use native.Mathlib.Numerals.{add-one}
@@ -8,13 +8,13 @@ use native.Mathlib.Omega.{arith}
 use lib.Dec.{leb}
 use lib.ListN.{length, take, drop, length-drop}
 use lib.Seq.{take_all}
-use borrow.Author.Tests.{eq-eqb, ne_eqb, leb-true}
-use Rattle.versions.specs.Layout.{last_used, kept_count, oldest}
+use borrow.Author.Tests.{ne_eqb, leb-true}
+use Rattle.versions.specs.Layout.{last_used, oldest}
 use Rattle.versions.specs.Version.{is_kept}
 use Rattle.part.specs.Layout.{versions_at, versions, with_version, with_settings}
 use Rattle.part.specs.WellFormed.{well_formed}
 use Rattle.part.proofs.Rule.{form_of}
-use Rattle.station.specs.Versions.{refused_list, list_answer, refused_return, return_refusal, return_answer, return_part}
+use Rattle.station.specs.Versions.{return_refusal, return_answer, return_part}
 use Rattle.station.proofs.VersionsOwes.{returned}
 
 -- the versions, as the code lends them
@@ -24,34 +24,13 @@ versions_lent p = take_all (length p - versions_at) (drop versions_at p) (omega 
 pub has_versions : (k : ℕ) (p : List ℕ) → well_formed k p ≡ true → versions_at ≤ length p
 has_versions k p w = omega (arith, (form_of k p w).size)
 
-pub unlisted : (k : ℕ) (p : List ℕ) → well_formed k p ≡ false → refused_list 2 ≡ list_answer k p
-unfolding list_answer
-unlisted k p w = rw w
-
-pub listed : (k : ℕ) (p : List ℕ) → well_formed k p ≡ true → (a b : ℕ) → a ≡ oldest (versions p) → b ≡ kept_count (versions p)
-    → record { oldest = a; kept = b; number = 0 } ≡ list_answer k p
-unfolding list_answer
-listed k p w a b x y = rw (w, x, y)
-
 -- a number that is kept is no more than the last
 pub kept_small : (n : ℕ) (v : List ℕ) → is_kept n v ≡ true → n ≤ last_used v
 kept_small n v kept = leb-true n (last_used v) ((and-eq-true_iff (leb (oldest v) n) (leb n (last_used v))).0 kept).1
 
 module _ (k n : ℕ) (p : List ℕ) where
-  pub unformed : well_formed k p ≡ false → (refused_return 2 ≡ return_answer k n p) × (p ≡ return_part k n p)
-  unfolding return_answer return_part return_refusal
-  unformed w = rw w (refl, refl)
-
   module _ (w : well_formed k p ≡ true) where
-    pub unkept : is_kept n (versions p) ≡ false → (refused_return 14 ≡ return_answer k n p) × (p ≡ return_part k n p)
-    unfolding return_answer return_part return_refusal
-    unkept none = rw (w, none) (refl, refl)
-
     module _ (kept : is_kept n (versions p) ≡ true) (last : ℕ) (is : last ≡ last_used (versions p)) where
-      pub exhausted : last ≡ 65535 → (refused_return 15 ≡ return_answer k n p) × (p ≡ return_part k n p)
-      unfolding return_answer return_part return_refusal
-      exhausted all = rw (w, kept, eq-eqb (last_used (versions p)) 65535 (sym is ∙ all)) (refl, refl)
-
       passes : (last ≡ 65535 → ⊥) → return_refusal k n p ≡ 0
       unfolding return_refusal
       passes some = rw (w, kept, ne_eqb (last_used (versions p)) 65535 (λ e. some (is ∙ e)))

@@ -36,6 +36,6 @@ refusal_number NotKept = 14
 refusal_number UsedUp = 15
 
 -- the number that a call is answered by, 0 where it was done
-abbrev pub number_of : {Done : Type 0} → Result Done Refusal → ℕ
-number_of (Ok done) = 0
-number_of (Err refusal) = refusal_number refusal
+abbrev pub answered_number : {Done : Type 0} → Result Done Refusal → ℕ
+answered_number (Ok done) = 0
+answered_number (Err refusal) = refusal_number refusal

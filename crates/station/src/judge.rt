@@ -1,7 +1,7 @@
 // The tests 2 to 9 of a frame, in the order of their numbers; and what a merged call takes of a frame.
 ghost use Rattle.std.specs.Prelude.{◌≡◌, false, ◌||◌, ◌≤◌, eqb, length, IfOk, MatchResult};
 ghost use Rattle.station.specs.declared.refusal.Refusal.TheVariants.{NoFrame};
-ghost use Rattle.station.specs.Refusal.{number_of};
+ghost use Rattle.station.specs.Refusal.{answered_number};
 ghost use Rattle.station.specs.Frame.{function, length_fits, frame_refusal};
 ghost use Rattle.station.specs.Exchange.{no_read};
 ghost use Rattle.station.specs.Inner.{early, byte_of};
@@ -59,7 +59,7 @@ fn length_fits(f: &[u8]) -> bool
 // What a frame asks for that passes numbers 2 to 9; its block is left to judge. `room` is the size of the reply memory.
 #[tactic(auto, unfolding(crate::specs::Inner::early, crate::specs::Frame::frame_refusal))]
 pub(crate) fn judge(part: &[u8], k: u8, f: &[u8], room: usize) -> Result<Function, Refusal>
-    ensures number { number_of result ≡ early (frame_refusal k f.now room part.now) }
+    ensures number { answered_number result ≡ early (frame_refusal k f.now room part.now) }
     ensures asked { IfOk result (λ asked. function f.now ≡ byte_of asked) }
 {
     if !part::well_formed(part, k) {

@@ -2,7 +2,7 @@
 #![tactic(auto)]
 
 ghost use Rattle.std.specs.Prelude.{◌≡◌, ◌≤◌, length, IfOk, IsOk};
-ghost use Rattle.station.specs.Refusal.{number_of};
+ghost use Rattle.station.specs.Refusal.{answered_number};
 ghost use Rattle.station.specs.Parts.{farms, station_size, station_refusal, fresh_number, fresh_station};
 ghost use Rattle.station.specs.Cycle.{refused_cycle};
 ghost use Rattle.station.specs.Versions.{refused_list, refused_return};
@@ -82,6 +82,7 @@ pub const FARMS: usize = 16;
 // Bytes of a station's memory.
 pub const STATION: usize = FARMS * part::SIZE;
 
+#[tactic(auto, unfolding(catalogue::specs::Table::parameter_bytes, catalogue::specs::Table::rows, versions::specs::Layout::last_at))]
 pub fn size() -> usize
     ensures { result ≡ station_size }
 {
@@ -89,6 +90,7 @@ pub fn size() -> usize
 }
 
 // Where the part of a farm or axis lies in a station's memory.
+#[tactic(auto, unfolding(catalogue::specs::Table::parameter_bytes, catalogue::specs::Table::rows, versions::specs::Layout::last_at))]
 fn place_of(k: u32) -> Range<usize>
     requires { (1 ≤ k) × (k ≤ farms) }
     ensures { Place k result }
@@ -98,8 +100,9 @@ fn place_of(k: u32) -> Range<usize>
 }
 
 // The same, of any farm or axis and the bytes of the memory that is lent, unless one of them is refused.
+#[tactic(auto, using(crate::proofs::Answers::lends), unfolding(crate::specs::Parts::station_refusal, catalogue::specs::Table::parameter_bytes, catalogue::specs::Table::rows, versions::specs::Layout::last_at))]
 fn place_in(k: u32, size: usize) -> Result<Range<usize>, Refusal>
-    ensures number { number_of result ≡ station_refusal k size }
+    ensures number { answered_number result ≡ station_refusal k size }
     ensures place { IfOk result (λ place. Lent k size place) }
 {
     if k == 0 || FARMS < k as usize {
@@ -113,7 +116,7 @@ fn place_in(k: u32, size: usize) -> Result<Range<usize>, Refusal>
 
 // Makes a fresh station.
 pub fn fresh(station: &mut [u8]) -> Result<(), Refusal>
-    ensures value { number_of result ≡ fresh_number station.old }
+    ensures value { answered_number result ≡ fresh_number station.old }
     ensures done { length station.old ≡ station_size → IsOk result }
     ensures station_after { station.new ≡ fresh_station station.old }
 {

@@ -52,6 +52,7 @@ fn quiet_cycle(part: &mut [u8], motion: Motion, faulted: bool, input: Input) -> 
 }
 
 // A cycle of the axis k.
+#[tactic(auto, unfolding(crate::specs::Cycle::cycle_refusal, crate::specs::Cycle::cycle_answer, crate::specs::Cycle::cycle_part))]
 pub(crate) fn cycle_on(part: &mut [u8], k: u8, sent: Sent) -> Result<CycleDone, Refusal>
     ensures value { told refused_cycle result ≡ cycle_answer k sent part.old }
     ensures part_after { part.new ≡ cycle_part k sent part.old }

@@ -26,6 +26,7 @@ fn write_on(part: &mut [u8], k: u8, f: &[u8], reply: &mut [u8]) -> Result<Framed
 }
 
 // A read that passed numbers 2 to 9, or the fetch of a merged call: the response is handed over, and none waits.
+#[tactic(auto, unfolding(catalogue::specs::Table::parameter_bytes, catalogue::specs::Table::rows, versions::specs::Layout::last_at))]
 pub(crate) fn read_on(part: &mut [u8], reply: &mut [u8]) -> Framed
     requires { (length part.old ≡ part_size) × ((waiting_length part.old ≤ block_limit) × (4 + block_limit ≤ length reply.old)) }
     ensures value { result ≡ framed (fetched part.old) 0 0 }

@@ -6,6 +6,7 @@ ghost use Rattle.station.specs.Inner.{told};
 use super::{Listed, Refusal, Returned};
 
 // The kept versions of the farm k.
+#[tactic(auto, using(crate::proofs::Returning::has_versions, crate::proofs::Returning::versions_lent), unfolding(catalogue::specs::Table::parameter_bytes, catalogue::specs::Table::rows, crate::specs::Versions::list_answer))]
 pub(crate) fn list_on(part: &[u8], k: u8) -> Result<Listed, Refusal>
     ensures { told refused_list result ≡ list_answer k part.now }
 {
@@ -21,6 +22,7 @@ pub(crate) fn list_on(part: &[u8], k: u8) -> Result<Listed, Refusal>
 }
 
 // A going back of the farm k.
+#[tactic(auto, using(crate::proofs::Returning::has_versions, crate::proofs::Returning::versions_lent), unfolding(catalogue::specs::Table::parameter_bytes, catalogue::specs::Table::rows, crate::specs::Versions::return_answer, crate::specs::Versions::return_part, crate::specs::Versions::return_refusal))]
 pub(crate) fn go_back_on(part: &mut [u8], k: u8, version: u32) -> Result<Returned, Refusal>
     ensures value { told refused_return result ≡ return_answer k version part.old }
     ensures part_after { part.new ≡ return_part k version part.old }

@@ -24,6 +24,7 @@ fn code_of(refusal: Refusal) -> u8
 }
 
 // A refusal of a frame; nothing is put for numbers 1 to 4.
+#[tactic(auto, using(codes::proofs::Put::put_none))]
 pub(crate) fn refuse(f: &[u8], reply: &mut [u8], refusal: Refusal) -> Framed
     ensures value { result ≡ framed (refused_reply f.now (refusal_number refusal)) 0 (refusal_number refusal) }
     ensures reply_after { reply.new ≡ put reply.old 0 (refused_reply f.now (refusal_number refusal)) }

@@ -1,4 +1,4 @@
--- A part that is not well-formed, flags above 3, a quiet cycle, and any other that is done.
+-- A quiet cycle, and any other that is done.
 use mathlib.Core.Path.{◌≡◌, sym, ap, ap₂, ◌∙◌}
 use mathlib.Core.Bool.{false, not}
 use Rattle.codes.proofs.Fixed.{Bytes}
@@ -7,21 +7,9 @@ use Rattle.drive.specs.Cycle.{cycle_of}
 use Rattle.drive.specs.Motion.{with_faults, moved_of, quiet_of}
 use Rattle.part.specs.Record.{drive_of, put_motion, put_drive}
 use Rattle.station.specs.Cycle.{input_of, cycled}
-use Rattle.station.proofs.Cycles.{unformed, flagged, loaded_whole, cycles, quiet_cycles}
+use Rattle.station.proofs.Cycles.{loaded_whole, cycles, quiet_cycles}
 use borrow.Author.Rules.{rules}
 use Rattle.station.proofs.part_cycle.cycle_on.Goals as goal
-
-pub returns-then-not-well_formed : goal.returns-then-not-well_formed
-returns-then-not-well_formed c =
-    let a = c.args in
-    let o = unformed a.k a.sent a.part.now (sym c.well_formed-2.ensures ∙ c.if-not-well_formed.true) in
-    record { value = o.0; part_after = o.1 }
-
-pub returns-then-sent-gt3 : goal.returns-then-sent-gt3
-returns-then-sent-gt3 c =
-    let a = c.args in
-    let o = flagged a.k a.sent a.part.now (sym c.well_formed-2.ensures ∙ c.if-not-well_formed.false) c.if-sent-gt3.true in
-    record { value = o.0; part_after = o.1 }
 
 pub returns-then-is_quiet : goal.returns-then-is_quiet
 returns-then-is_quiet c =
@@ -38,5 +26,5 @@ pub returns : goal.returns
 returns c =
     let a = c.args in
     let o = cycles a.k a.sent a.part.now (sym c.well_formed-2.ensures ∙ c.if-not-well_formed.false) c.if-sent-gt3.false in
-    let e : c.cycle_lent-done.result ≡ cycle_of (drive_of a.part.now) (input_of a.sent a.part.now) = c.cycle_lent-done.ensures ∙ ap₂ cycle_of (ap₂ with_faults c.load_motion-motion.ensures c.load_faults.ensures ∙ loaded_whole a.part.now) c.input_of-input.ensures in
+    let e : c.cycle_lent-done.result ≡ cycle_of (drive_of a.part.now) (input_of a.sent a.part.now) = c.cycle_lent-done.ensures ∙ ap₂ cycle_of (ap₂ with_faults c.load_motion-motion.ensures c.load_faults-faults.ensures ∙ loaded_whole a.part.now) c.input_of-input.ensures in
     record { value = c.answered.ensures ∙ (ap (λ (x : CycleEnd). cycled x.output) e ∙ o.0); part_after = c.store.ensures ∙ (ap (λ (x : CycleEnd). put_drive x.drive a.part.now) e ∙ o.1) }

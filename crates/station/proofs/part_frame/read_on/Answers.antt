@@ -5,12 +5,7 @@ use native.Mathlib.Omega.{arith}
 use Rattle.catalogue.specs.Table.{rows, parameter_bytes}
 use Rattle.versions.specs.Layout.{last_at}
 use Rattle.station.proofs.Frames.{handed}
-use borrow.Author.Rules.{rules}
 use Rattle.station.proofs.part_frame.read_on.Goals as goal
-
-pub slice_bounds-put_bytes-end-2 : goal.slice_bounds-put_bytes-end-2
-unfolding parameter_bytes rows last_at
-slice_bounds-put_bytes-end-2 c = search rules
 
 pub returns : goal.returns
 unfolding parameter_bytes rows last_at
