@@ -2,8 +2,6 @@
 #![tactic(auto)]
 
 ghost use Rattle.std.specs.Prelude.{◌≡◌, ◌++◌, ◌≤◌, length, drop};
-ghost use Rattle.station.specs.Calls.{kinds};
-ghost use Rattle.station.specs.Isolation.{answer, after};
 ghost use Rattle.journal.specs.Written.{room, Wrote};
 ghost use Rattle.journal.specs.Line.{is_record, record_line, record_after};
 ghost use Rattle.journal.specs.Kinds.{kind_of};

@@ -2,7 +2,7 @@
 ghost use Rattle.std.specs.Prelude.{◌≡◌, ◌≤◌, length};
 ghost use Rattle.drive.specs.Faults.{zeros};
 ghost use Rattle.journal.specs.Line.{record_length, longest_record, next_record};
-ghost use Rattle.journal.specs.Kinds.{clear_past_frame, kind_by, length_of, kind_of};
+ghost use Rattle.journal.specs.Kinds.{clear_past_frame, kind_of};
 
 // Records, with their kind byte, and what of a frame's stands before the frame.
 const CYCLE: usize = 11;
