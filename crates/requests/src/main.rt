@@ -17,7 +17,7 @@ type Part = [u8; part::SIZE];
 
 type Block = [u8; blocks::BLOCK_LIMIT];
 
-// The first `len` bytes, or all where there are no more.
+// The first `len` bytes, or all where there are no more. `layouts` has the same line: a crate for it would be no plainer.
 fn first(s: &[u8], len: usize) -> &[u8] {
     s.get(..len).unwrap_or(s)
 }
