@@ -1,5 +1,7 @@
 -- How an address of a change is answered: by `40 00` or by an error, of at most four bytes.
-use mathlib.Core.Path.{◌≡◌, refl, subst}
+use Rattle.std.specs.Prelude.{Result, Ok, Err}
+use Rattle.access.specs.declared.error.ParameterError.{ParameterError}
+use mathlib.Core.Path.{◌≡◌, refl}
 use mathlib.Core.Bool.{Bool, true, false, cond, not, ◌||◌}
 use mathlib.Core.List.{List, [], ◌∷◌}
 use Prim.Native.Nat.{ℕ, ◌+◌, ◌*◌, ◌≤◌}
@@ -13,60 +15,50 @@ use Rattle.blocks.specs.Page.{block_bytes}
 use Rattle.blocks.specs.declared.reader.Address.{Address}
 use Rattle.catalogue.specs.declared.Row.{Row}
 use Rattle.catalogue.specs.Element.{size_code, type_code}
-use Rattle.access.specs.declared.Checked.{Checked}
-use Rattle.access.specs.declared.Checked.TheVariants.{Elements, Error}
-use Rattle.access.specs.declared.change.Done.{Done}
+use Rattle.access.specs.declared.error.ParameterError.TheVariants.{ReadOnly, OutsideLimits, WrongType, WrongCount}
 use Rattle.access.specs.Address.{checked, error_block, empty_block}
 use Rattle.access.specs.Change.{Changed, failure, all_inside, store_whole, of_elements, of_checked, change_one, change_all}
 use Rattle.access.specs.Walk.{answer_in, Wrote}
 use Rattle.access.proofs.Checks.{pick}
 use Rattle.access.proofs.Room.{error_size}
 
-pub answer_error : (d : Done) → d.failed ≡ true → error_block d.error ≡ answer_in d
-answer_error d e = rw e
-
-pub answer_empty : (l m : List ℕ) (at : ℕ) (d : Done) → d.failed ≡ false → m ≡ put l at (0x40 ∷ 0 ∷ []) → Wrote l m at (answer_in d) (record { next = at + 2; error = false })
-answer_empty l m at d e p =
-    let empty : empty_block ≡ answer_in d = rw e in
-    subst (λ (b : Block). Wrote l m at b (record { next = at + 2; error = false })) empty (record { bytes = p; next = refl; error = refl })
+pub answer_empty : (l m : List ℕ) (at n : ℕ) → m ≡ put l at (0x40 ∷ 0 ∷ []) → Wrote l m at (answer_in (Ok n)) (record { next = at + 2; error = false })
+answer_empty l m at n p = record { bytes = p; next = refl; error = refl }
 
 -- an answer takes at most four bytes
-error_short : (e : ℕ) → length (block_bytes (error_block e)) ≤ 4
+error_short : (e : ParameterError) → length (block_bytes (error_block e)) ≤ 4
 error_short e = omega (arith, error_size e)
 
 empty_short : length (block_bytes empty_block) ≤ 4
 empty_short = lit≤ tt
 
-pub answer_short : (d : Done) → length (block_bytes (answer_in d)) ≤ 4
-answer_short d = go d.failed
-  where
-    go : (t : Bool) → length (block_bytes (cond t (error_block d.error) empty_block)) ≤ 4
-    go true = error_short d.error
-    go false = empty_short
+pub answer_short : (d : Result ℕ ParameterError) → length (block_bytes (answer_in d)) ≤ 4
+answer_short (Ok n) = empty_short
+answer_short (Err e) = error_short e
 
 record Brief (c : Changed) : Type 0 where
   pub short : length (block_bytes c.block) ≤ 4
 
-failure_brief : (t : Bool) (e : ℕ) (p : List ℕ) (c : Changed) → Brief c → Brief (cond t (failure e p) c)
+failure_brief : (t : Bool) (e : ParameterError) (p : List ℕ) (c : Changed) → Brief c → Brief (cond t (failure e p) c)
 failure_brief true e p c k = record { short = error_short e }
 failure_brief false e p c k = k
 
 store_brief : (r : Row) (i : ℕ) (xs p : List ℕ) → Brief (store_whole r i xs p)
-store_brief r i xs p = pick Brief (all_inside r xs) (λ t. record { short = empty_short }) (λ t. record { short = error_short 0x02 })
+store_brief r i xs p = pick Brief (all_inside r xs) (λ t. record { short = empty_short }) (λ t. record { short = error_short OutsideLimits })
 
 elements_brief : (a : Address) (b : Block) (p : List ℕ) (r : Row) (n : ℕ) → Brief (of_elements a b p r n)
 elements_brief a b p r n =
-    failure_brief (not r.writable) 0x01 p _
-    (failure_brief (not (eqb b.format (size_code r.kind) || eqb b.format (type_code r.kind))) 0x05 p _
-    (failure_brief (not (eqb (length b.values) n)) 0x18 p _ (store_brief r a.subindex b.values p)))
+    failure_brief (not r.writable) ReadOnly p _
+    (failure_brief (not (eqb b.format (size_code r.kind) || eqb b.format (type_code r.kind))) WrongType p _
+    (failure_brief (not (eqb (length b.values) n)) WrongCount p _ (store_brief r a.subindex b.values p)))
 
 change_brief : (a : Address) (b : Block) (p : List ℕ) → Brief (change_one a b p)
 unfolding change_one
 change_brief a b p = go (checked a)
   where
-    go : (c : Checked) → Brief (of_checked a b p c)
-    go (Error e) = record { short = error_short e }
-    go (Elements r n) = elements_brief a b p r n
+    go : (c : Result (Row × ℕ) ParameterError) → Brief (of_checked a b p c)
+    go (Err e) = record { short = error_short e }
+    go (Ok (r, n)) = elements_brief a b p r n
 
 pub answers_short : (them : List Address) (bs : List Block) (p : List ℕ) → length (write_all block_bytes (change_all them bs p).blocks) ≤ 4 * length them
 answers_short [] bs p = omega arith

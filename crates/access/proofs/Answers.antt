@@ -1,4 +1,6 @@
 -- Every answer to a request is a response of document 01, with the request's header, and takes at most 240 bytes.
+use Rattle.std.specs.Prelude.{Result, Ok, Err}
+use Rattle.access.specs.declared.error.ParameterError.{ParameterError}
 use mathlib.Core.Path.{◌≡◌, refl, sym, ap, subst, ◌∙◌}
 use mathlib.Core.Bool.{Bool, true, false, cond, not, ◌||◌, or-false, and-eq-true_iff}
 use mathlib.Core.List.{List, [], ◌∷◌}
@@ -27,9 +29,8 @@ use Rattle.catalogue.specs.declared.Row.{Row}
 use Rattle.catalogue.specs.Table.{element_size}
 use Rattle.catalogue.specs.Element.{size_code, type_code, inside}
 use Rattle.catalogue.proofs.Elements.{element_small}
-use Rattle.access.specs.declared.Checked.{Checked}
-use Rattle.access.specs.declared.Checked.TheVariants.{Elements, Error}
-use Rattle.access.specs.Address.{checked, error_block, empty_block}
+use Rattle.access.specs.declared.error.ParameterError.TheVariants.{NoSuchParameter, ReadOnly, OutsideLimits, PastTheEnd, NoArray, WrongType, NoDescription, NoText, NoRoom, BadAddress, WrongCount}
+use Rattle.access.specs.Address.{error_number, checked, error_block, empty_block}
 use Rattle.access.specs.Read.{elements_from, block_size, answer_to, read_block, read_blocks}
 use Rattle.access.specs.Change.{Changed, failure, all_inside, success, of_elements, of_checked, change_one, change_all}
 use Rattle.access.specs.Work.{Worked, answer_of, worked}
@@ -71,14 +72,14 @@ all_limits r (x ∷ xs) e = let two = (and-eq-true_iff (inside r x) (all_inside 
 
 -- A change of one address fails, or all of it is stored, as it can be.
 module _ (a : Address) (b : Block) (p : List ℕ) (P : Changed → Type 0)
-    (refuses : (e : ℕ) → e < 65536 → P (failure e p))
+    (refuses : (e : ParameterError) → P (failure e p))
     (stores : (s : Storable a b) → Named a s.row s.number → P (success s.row a.subindex b.values p)) where
-  elements_cases : (r : Row) (n : ℕ) → checked a ≡ Elements r n → Named a r n → P (of_elements a b p r n)
+  elements_cases : (r : Row) (n : ℕ) → checked a ≡ Ok (r, n) → Named a r n → P (of_elements a b p r n)
   elements_cases r n s h =
       let known = eqb b.format (size_code r.kind) || eqb b.format (type_code r.kind) in
-      pick P (not r.writable) (λ t. refuses 0x01 (lit< tt))
-      (λ t. pick P (not known) (λ u. refuses 0x05 (lit< tt))
-      (λ u. pick P (not (eqb (length b.values) n)) (λ v. refuses 0x18 (lit< tt))
+      pick P (not r.writable) (λ t. refuses ReadOnly)
+      (λ t. pick P (not known) (λ u. refuses WrongType)
+      (λ u. pick P (not (eqb (length b.values) n)) (λ v. refuses WrongCount)
       (λ v.
       pick P (all_inside r b.values)
       (λ x.
@@ -93,26 +94,39 @@ module _ (a : Address) (b : Block) (p : List ℕ) (P : Changed → Type 0)
         limits = all_limits r b.values x;
       })
       h)
-      (λ x. refuses 0x02 (lit< tt)))))
+      (λ x. refuses OutsideLimits))))
 
   pub change_cases : P (change_one a b p)
   unfolding change_one
   change_cases = go (checked a) refl (checked_fits a)
     where
-      go : (c : Checked) → checked a ≡ c → CheckedFits a c → P (of_checked a b p c)
-      go (Error e) s small = refuses e small
-      go (Elements r n) s h = elements_cases r n s h
+      go : (c : Result (Row × ℕ) ParameterError) → checked a ≡ c → CheckedFits a c → P (of_checked a b p c)
+      go (Err e) s u = refuses e
+      go (Ok (r, n)) s h = elements_cases r n s h
 
 -- values that can be stored are as wide as the elements
 pub storable_small : (a : Address) (b : Block) (s : Storable a b) → BlockFits change_block_fits b → AllOf (λ x. x < 256 ^ element_size s.row.kind) b.values
 storable_small a b s g = subst (λ (w : ℕ). AllOf (λ x. x < 256 ^ w) b.values) (format_same s.row.kind b.format s.format) g.values
 
 -- An error word and `40 00`: they fit where they may stand, and take at most 4 bytes.
-error_fits_lem : (id e : ℕ) → response_block_fits id 0x44 1 ≡ true → e < 65536 → BlockFits (response_block_fits id) (error_block e)
-unfolding value_size
-error_fits_lem id e allowed small = record { format = lit< tt; number = lit< tt; allowed = allowed; values = (small, tt) }
+error_small : (e : ParameterError) → error_number e < 65536
+error_small NoSuchParameter = lit< tt
+error_small NoDescription = lit< tt
+error_small NoText = lit< tt
+error_small BadAddress = lit< tt
+error_small NoArray = lit< tt
+error_small PastTheEnd = lit< tt
+error_small ReadOnly = lit< tt
+error_small WrongType = lit< tt
+error_small WrongCount = lit< tt
+error_small OutsideLimits = lit< tt
+error_small NoRoom = lit< tt
 
-error_size : (e : ℕ) → block_size (error_block e) ≡ 4
+error_fits_lem : (id : ℕ) (e : ParameterError) → response_block_fits id 0x44 1 ≡ true → BlockFits (response_block_fits id) (error_block e)
+unfolding value_size
+error_fits_lem id e allowed = record { format = lit< tt; number = lit< tt; allowed = allowed; values = (error_small e, tt) }
+
+error_size : (e : ParameterError) → block_size (error_block e) ≡ 4
 unfolding values_size values_of value_size
 error_size e = refl
 
@@ -175,22 +189,22 @@ module _ (p : List ℕ) (used after : ℕ) (room : used + 4 + 4 * after ≤ bloc
   abbrev Leaves : Block → Type 0
   Leaves b = BlockFits (response_block_fits 0x81) b × (used + block_size b + 4 * after ≤ block_limit)
 
-  leaves_error : (e : ℕ) → e < 65536 → Leaves (error_block e)
+  leaves_error : (e : ParameterError) → Leaves (error_block e)
   unfolding response_block_fits
-  leaves_error e small = (error_fits_lem 0x81 e refl small, rw (error_size e) room)
+  leaves_error e = (error_fits_lem 0x81 e refl, rw (error_size e) room)
 
   read_one : (a : Address) → Leaves (read_block p used after a)
   unfolding read_block
   read_one a = go (checked a) (checked_fits a)
     where
-      go : (c : Checked) → CheckedFits a c → Leaves (answer_to p used after a c)
-      go (Error e) small = leaves_error e small
-      go (Elements r n) h =
+      go : (c : Result (Row × ℕ) ParameterError) → CheckedFits a c → Leaves (answer_to p used after a c)
+      go (Err e) u = leaves_error e
+      go (Ok (r, n)) h =
           let b : Block = record { format = size_code r.kind; values = elements_from r a.subindex n p } in
           let size = used + block_size b + 4 * after in
           pick Leaves (leb size block_limit)
           (λ t. (values_fit r a.subindex n p h.some (omega (arith, h.room, h.short)), leb-true size block_limit t))
-          (λ t. leaves_error 0x15 (lit< tt))
+          (λ t. leaves_error NoRoom)
 
 read_all : (p : List ℕ) (used : ℕ) (them : List Address) → used + 4 * length them ≤ block_limit → Run 0x81 used (length them) (read_blocks p used them)
 read_all p used [] room = record { fits = tt; count = refl; short = omega arith }
@@ -203,9 +217,9 @@ read_all p used (a ∷ more) room =
 abbrev Small : Block → Type 0
 Small b = BlockFits (response_block_fits 0x82) b × (block_size b ≤ 4)
 
-small_error : (e : ℕ) → e < 65536 → Small (error_block e)
+small_error : (e : ParameterError) → Small (error_block e)
 unfolding response_block_fits
-small_error e small = (error_fits_lem 0x82 e refl small, omega (arith, error_size e))
+small_error e = (error_fits_lem 0x82 e refl, omega (arith, error_size e))
 
 small_empty : Small empty_block
 unfolding response_block_fits

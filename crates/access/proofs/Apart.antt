@@ -1,5 +1,8 @@
 -- What a change answers and how much it stores do not hang on the part, so that they can be told on no bytes of it; and where nothing is
 -- stored, the part is as it was.
+use Rattle.std.specs.Prelude.{Result, Ok, Err}
+use Rattle.catalogue.specs.declared.Row.{Row}
+use Rattle.access.specs.declared.error.ParameterError.{ParameterError}
 use mathlib.Core.Path.{◌≡◌, refl, ap, subst, ◌∙◌}
 use mathlib.Core.Bool.{Bool, true, false, cond, not, ◌||◌}
 use mathlib.Core.List.{List, [], ◌∷◌, ◌++◌, append-nil}
@@ -12,8 +15,6 @@ use lib.Seq.{take-length, drop-length}
 use Rattle.blocks.specs.Block.{Block}
 use Rattle.blocks.specs.declared.reader.Address.{Address}
 use Rattle.catalogue.specs.Element.{size_code, type_code}
-use Rattle.access.specs.declared.Checked.{Checked}
-use Rattle.access.specs.declared.Checked.TheVariants.{Elements, Error}
 use Rattle.access.specs.declared.change.Changes.{Changes}
 use Rattle.access.specs.Address.{checked}
 use Rattle.access.specs.Change.{Changed, all_inside, of_checked, change_one, ChangedAll, change_all}
@@ -29,9 +30,9 @@ alike_test : (t : Bool) {w x y z : Changed} → Alike w y → Alike x z → Alik
 alike_test true f g = f
 alike_test false f g = g
 
-checked_alike : (a : Address) (b : Block) (p q : List ℕ) (c : Checked) → Alike (of_checked a b p c) (of_checked a b q c)
-checked_alike a b p q (Error e) = record { block = refl; stored = refl }
-checked_alike a b p q (Elements r n) =
+checked_alike : (a : Address) (b : Block) (p q : List ℕ) (c : Result (Row × ℕ) ParameterError) → Alike (of_checked a b p c) (of_checked a b q c)
+checked_alike a b p q (Err e) = record { block = refl; stored = refl }
+checked_alike a b p q (Ok (r, n)) =
     alike_test (not r.writable) (record { block = refl; stored = refl })
     (alike_test (not (eqb b.format (size_code r.kind) || eqb b.format (type_code r.kind))) (record { block = refl; stored = refl })
     (alike_test (not (eqb (length b.values) n)) (record { block = refl; stored = refl })
@@ -55,7 +56,7 @@ none_stored (a ∷ more) [] p z = refl
 none_stored (a ∷ more) (b ∷ sent) p z = none_stored more sent (change_one a b p).part (omega (arith, z)) ∙ one (omega (arith, z))
   where
     one : (change_one a b p).stored ≡ 0 → (change_one a b p).part ≡ p
-    one = change_cases a b p (λ c. c.stored ≡ 0 → c.part ≡ p) (λ e small z. refl) (λ s named z. absurd (omega (arith, z, s.count, named.some)))
+    one = change_cases a b p (λ c. c.stored ≡ 0 → c.part ≡ p) (λ e z. refl) (λ s named z. absurd (omega (arith, z, s.count, named.some)))
 
 -- a change whose part stays as it was where it is only told what would be stored
 abbrev pub told : Bool → List Address → List Block → List ℕ → ChangedAll

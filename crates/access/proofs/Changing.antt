@@ -1,13 +1,11 @@
 -- The loop over the addresses and blocks of a change: what is left to do from where it stands is what was to be done at first.
-use Rattle.std.proofs.lemmas.Option.{same_Some}
-use Rattle.std.specs.Prelude.{Option, Some, None}
+use Rattle.std.specs.Prelude.{Option, Some, None, Result}
 use mathlib.Core.Path.{◌≡◌, refl, sym, ◌∙◌, ap}
-use mathlib.Core.Bool.{Bool, true, false, cond, ◌||◌}
+use mathlib.Core.Bool.{Bool, true, false, ◌||◌}
 use mathlib.Core.List.{List, [], ◌∷◌}
 use Prim.Native.Nat.{ℕ, zero, suc, ◌+◌, ◌-◌, ◌*◌, ◌≤◌, ◌<◌}
 use native.Mathlib.Omega.{arith}
 use native.Mathlib.Numerals.{sub-one}
-use lib.Dec.{leb}
 use lib.ListN.{length, drop}
 use Rattle.codes.specs.Code.{Got, got, bad, and_then, read_times}
 use Rattle.codes.specs.Number.{value_or}
@@ -15,16 +13,15 @@ use Rattle.codes.proofs.Put.{put_length}
 use Rattle.drive.specs.Faults.{buffer_codes}
 use Rattle.blocks.specs.Block.{Block, block_limit, change_block_fits, block}
 use Rattle.blocks.specs.Page.{block_bytes}
-use Rattle.blocks.specs.Place.{addresses_end, step_of, step_at, block_at, walk}
-use Rattle.blocks.specs.Request.{address}
+use Rattle.blocks.specs.Place.{step_at, block_at, walk}
 use Rattle.blocks.specs.declared.Head.{Head}
 use Rattle.blocks.specs.declared.reader.Address.{Address}
 use Rattle.blocks.proofs.Blocks.{block_stands, block_falls}
 use Rattle.access.specs.declared.reply.Written.{Written}
-use Rattle.access.specs.declared.change.Done.{Done}
+use Rattle.access.specs.declared.error.ParameterError.{ParameterError}
 use Rattle.access.specs.declared.change.Changes.{Changes}
 use Rattle.access.specs.Change.{ChangedAll, follow, change_one, change_all}
-use Rattle.access.specs.Walk.{Wrote, block_in, blocks_in, answer_in, Did, DidAll}
+use Rattle.access.specs.Walk.{Wrote, block_in, blocks_in, answer_in, counted, Did, DidAll}
 use Rattle.access.proofs.Filled.{sofar, one, all, one_wrote, all_wrote}
 use Rattle.access.proofs.Reading.{walk_next}
 use Rattle.access.proofs.Answering.{answer_short, answers_short}
@@ -57,16 +54,6 @@ blocks_next s from left h st w =
     go b (got bs u) e = refl
     go b bad e = absurd (omega arith)
 
--- an address takes six bytes
-pub step_six : (s : List ℕ) (at : ℕ) (a : Address) (next : ℕ) → step_at s at ≡ Some (a, next) → next ≡ at + 6
-unfolding step_at
-step_six s at a next e = go (leb (at + 6) (addresses_end s)) (address.read (drop at s)) e
-  where
-    go : (b : Bool) (g : Got Address) → cond b (step_of (at + 6) g) None ≡ Some (a, next) → next ≡ at + 6
-    go true (got x t) q = sym (ap (λ (p : Address × ℕ). p.1) (same_Some (x, at + 6) (a, next) q))
-    go true bad q = absurd (let z : ◌≡◌ {A = ℕ} 0 1 = cc in omega arith)
-    go false g q = absurd (let z : ◌≡◌ {A = ℕ} 0 1 = cc in omega arith)
-
 -- an error now, or one before
 pub error_now : (before now : Bool) → now ≡ true → true ≡ (before || now)
 error_now true now e = refl
@@ -92,9 +79,9 @@ pub record Changing (s : List ℕ) (n : ℕ) (p₀ out₀ p out : List ℕ) (at 
   pub counts : so.stored + (ahead s left at from p).stored ≡ (ahead s n 4 (4 + n * 6) p₀).stored
 
 module _ (s : List ℕ) (n : ℕ) (p₀ out₀ p out : List ℕ) (at from : ℕ) (so : Changes) where
-  module _ (left : ℕ) (a : Address) (next : ℕ) (h : Head) (q m : List ℕ) (d : Done) (w : Written) (error : Bool) where
+  module _ (left : ℕ) (a : Address) (next : ℕ) (h : Head) (q m : List ℕ) (d : Result ℕ ParameterError) (w : Written) (error : Bool) where
     abbrev after : Changes
-    after = record { next = w.next; error = error; stored = so.stored + d.stored }
+    after = record { next = w.next; error = error; stored = so.stored + counted d }
 
     next_turn : step_at s at ≡ Some (a, next) → block_at s from ≡ Some h → Did (change_one a (block_in s from) p) q d → length q ≡ length p → Wrote out m so.next (answer_in d) w → error ≡ (so.error || w.error) → Changing s n p₀ out₀ p out at from (suc left) so → Changing s n p₀ out₀ q m next h.next left after
     next_turn e st did kept o ee c =
@@ -119,7 +106,7 @@ module _ (s : List ℕ) (n : ℕ) (p₀ out₀ p out : List ℕ) (at from : ℕ)
           counts = omega (arith, did.stored, ap (λ (y : ChangedAll). y.stored) turned, c.counts);
         }
 
-  pub turn : (left : ℕ) (a : Address) (next : ℕ) (h : Head) (q m : List ℕ) (d : Done) (w : Written) (error : Bool) → 0 < left → step_at s at ≡ Some (a, next) → block_at s from ≡ Some h → Did (change_one a (block_in s from) p) q d → length q ≡ length p → Wrote out m so.next (answer_in d) w → error ≡ (so.error || w.error) → Changing s n p₀ out₀ p out at from left so → Changing s n p₀ out₀ q m next h.next (left - 1) (record { next = w.next; error = error; stored = so.stored + d.stored })
+  pub turn : (left : ℕ) (a : Address) (next : ℕ) (h : Head) (q m : List ℕ) (d : Result ℕ ParameterError) (w : Written) (error : Bool) → 0 < left → step_at s at ≡ Some (a, next) → block_at s from ≡ Some h → Did (change_one a (block_in s from) p) q d → length q ≡ length p → Wrote out m so.next (answer_in d) w → error ≡ (so.error || w.error) → Changing s n p₀ out₀ p out at from left so → Changing s n p₀ out₀ q m next h.next (left - 1) (record { next = w.next; error = error; stored = so.stored + counted d })
   turn zero a next h q m d w error z e st did kept o ee c = absurd (omega arith)
   turn (suc left) a next h q m d w error z e st did kept o ee c = rw sub-one (next_turn left a next h q m d w error e st did kept o ee c)
 

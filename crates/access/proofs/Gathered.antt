@@ -1,5 +1,5 @@
 -- The elements of a row for a block: gathered one by one in an array, or copied as the bytes that they stand in.
-use mathlib.Core.Path.{◌≡◌, refl, sym, ◌∙◌, ap, ap₂}
+use mathlib.Core.Path.{◌≡◌, refl, sym, ◌∙◌, ap}
 use mathlib.Core.List.{List, [], ◌∷◌, ◌++◌}
 use Prim.Native.Nat.{ℕ, zero, suc, ◌+◌, ◌*◌, ◌%◌, ◌≤◌, ◌<◌}
 use native.Mathlib.Omega.{arith}
@@ -8,17 +8,13 @@ use native.Mathlib.Nat.{add-zero}
 use lib.ListN.{length, get_or, set, take, drop, replicate}
 use lib.Seq.{take-suc, take-set-le, get_or-set_same, lt-length-set}
 use Rattle.codes.specs.Code.{write_all, word}
-use Rattle.codes.specs.Number.{number_at, numbers_at, put}
-use Rattle.codes.proofs.Fixed.{Bytes, small}
+use Rattle.codes.specs.Number.{number_at, numbers_at}
+use Rattle.codes.proofs.Fixed.{Bytes}
 use Rattle.codes.proofs.Number.{numbers_back}
 use Rattle.blocks.specs.Block.{Block, value_size, fill_size}
 use Rattle.blocks.specs.Page.{number_bytes, block_bytes}
-use Rattle.blocks.specs.Place.{put_block}
 use Rattle.blocks.proofs.Blocks.{fill_even}
 use Rattle.blocks.proofs.Page.{numbers_bytes}
-use Rattle.blocks.proofs.Parts.{block_counted}
-use Rattle.drive.specs.Faults.{buffer_codes}
-use Rattle.catalogue.specs.declared.Kind.{Kind}
 use Rattle.catalogue.specs.declared.Row.{Row}
 use Rattle.catalogue.specs.Table.{element_size}
 use Rattle.catalogue.specs.Element.{size_code, element_place, element_of}
@@ -60,9 +56,6 @@ module _ (r : Row) (p : List ℕ) where
     abbrev b : Block
     b = record { format = size_code r.kind; values = elements_from r i n p }
 
-    pub gathered_put : (l m : List ℕ) (at : ℕ) (vs : List ℕ) → n ≤ buffer_codes → vs ≡ elements_from r i n p → m ≡ put_block l at (record { format = f; values = vs }) → m ≡ put l at (block_bytes b)
-    gathered_put l m at vs few same e = e ∙ (ap₂ (λ (x : ℕ) (xs : List ℕ). put_block l at (record { format = x; values = xs })) code same ∙ block_counted l at b (omega (arith, elements_length i n)))
-
     pub copied_block : (w : ℕ) → w ≡ element_size r.kind → Bytes p → r.offset + i * w + n * w ≤ length p → f ∷ n ∷ take (n * w) (drop (r.offset + i * w) p) ++ replicate (n * w % 2) 0 ≡ block_bytes b
     copied_block w wide y there =
         let k = r.kind in
@@ -75,7 +68,3 @@ module _ (r : Row) (p : List ℕ) where
         ∙ (ap (write_all (word z).write) (elements_numbers i n)
         ∙ numbers_back z p y (size_small k) n (element_place r i) (rw wide at there))) in
         rw (code, wide, fill, them, elements_length i n)
-
--- no parameter has more elements, so they are few bytes
-pub bytes_few : (n w : ℕ) (k : Kind) → n ≤ buffer_codes → w ≡ element_size k → n * w ≤ 1020
-bytes_few n w k few wide = small n w (omega arith) (omega (arith, wide, size_small k))

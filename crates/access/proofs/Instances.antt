@@ -1,6 +1,8 @@
 -- Each law of specs/Laws.antt that no other proof uses whole, at work on requests that are written out: one that is made weaker fails here.
 -- What a law concludes is written out too, and nothing of that is unfolded.
-use Rattle.std.specs.Prelude.{Option, Some, None}
+use Rattle.access.specs.declared.error.ParameterError.TheVariants.{NoSuchParameter}
+use Rattle.access.specs.declared.error.ParameterError.{ParameterError}
+use Rattle.std.specs.Prelude.{Option, Some, None, Result, Ok, Err}
 use mathlib.Core.Path.{◌≡◌, refl, sym, ap, ◌∙◌}
 use mathlib.Core.Bool.{Bool, true, false, true≢false}
 use mathlib.Core.List.{List, [], ◌∷◌, Memᴰ}
@@ -20,8 +22,6 @@ use Rattle.catalogue.specs.Table.{rows, parameter_bytes, find_of}
 use Rattle.catalogue.specs.Element.{inside, element_of}
 use Rattle.versions.specs.Keep.{taken}
 use Rattle.part.specs.Layout.{versions_at, part_size, versions}
-use Rattle.access.specs.declared.Checked.{Checked}
-use Rattle.access.specs.declared.Checked.TheVariants.{Elements, Error}
 use Rattle.access.specs.Address.{checked, error_block, empty_block}
 use Rattle.access.specs.Read.{read_block, read_blocks}
 use Rattle.access.specs.Change.{Changed, change_one, change_all}
@@ -138,9 +138,9 @@ unfolding marks levels checked find_of rows inside
 storable = record { row = _; number = 2; passed = refl; writable = refl; format = inl refl; count = refl; limits = (refl, (refl, tt)) }
 
 -- whether 3001 is inside the limits of what an address names
-is_in : Checked → Bool
-is_in (Elements r n) = inside r 3001
-is_in (Error e) = false
+is_in : Result (Row × ℕ) ParameterError → Bool
+is_in (Ok (r, n)) = inside r 3001
+is_in (Err e) = false
 
 module _ (p : List ℕ) where
   -- AnswersHeader
@@ -165,7 +165,7 @@ module _ (p : List ℕ) where
   succeeds = refl
 
   -- AnswersIdentifier and AnswersBlocks: 81 and its error, 02 alone
-  with_error : ((worked read_nothing p).response.identifier ≡ 0x81) × ((worked read_nothing p).response.blocks ≡ error_block 0 ∷ [])
+  with_error : ((worked read_nothing p).response.identifier ≡ 0x81) × ((worked read_nothing p).response.blocks ≡ error_block NoSuchParameter ∷ [])
   unfolding read_nothing nowhere has_error read_block checked find_of rows
   with_error = (answers_identifier read_nothing p read_fits, answers_blocks read_nothing p)
 
@@ -186,7 +186,7 @@ module _ (p : List ℕ) where
   untouched = read_keeps read_nothing p refl
 
   -- ReadIsThere
-  marks_read : (q : Row) → checked marks ≡ Elements q 2 → is_error (read_block p 4 0 marks) ≡ false → (k : ℕ) → k < 2
+  marks_read : (q : Row) → checked marks ≡ Ok (q, 2) → is_error (read_block p 4 0 marks) ≡ false → (k : ℕ) → k < 2
       → get_or (read_block p 4 0 marks).values k 0 ≡ element_of q (1 + k) p
   unfolding marks
   marks_read q e ok k = read_is_there marks p 4 0 q 2 k e ok
@@ -252,9 +252,9 @@ module _ (p : List ℕ) where
 between_kept : (p : List ℕ) → take (versions_at - parameter_bytes) (drop parameter_bytes (worked set_one p).part) ≡ take (versions_at - parameter_bytes) (drop parameter_bytes p)
 between_kept p = (only_stored_changes set_one p one_fits).others
 
-how_many : Checked → ℕ
-how_many (Elements r n) = n
-how_many (Error e) = 0
+how_many : Result (Row × ℕ) ParameterError → ℕ
+how_many (Ok (r, n)) = n
+how_many (Err e) = 0
 
 not_user : (q : Row) (j : ℕ) → (find_of 9900 ≡ Some q → j < 1 → ⊥) → Names user q j → ⊥
 unfolding user checked find_of rows how_many

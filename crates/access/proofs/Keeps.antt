@@ -32,7 +32,8 @@ use Rattle.versions.specs.Keep.{taken}
 use Rattle.versions.specs.Fit.{versions_fit}
 use Rattle.part.specs.Layout.{state_at, length_at, response_at, versions_at, part_size, with_response, versions, with_version}
 use Rattle.part.specs.Record.{words_at}
-use Rattle.part.specs.WellFormed.{is_state, limits_fit, fixed_fit, waiting_fits, unused_fit, well_formed}
+use Rattle.part.specs.WellFormed.{limits_fit, fixed_fit, waiting_fits, unused_fit, well_formed}
+use Rattle.drive.specs.States.{is_state}
 use Rattle.part.proofs.Laws.{response_well_formed, drop_later}
 use Rattle.part.proofs.Versions.{front_element, front_taken, version_length, version_front, version_taken, version_well_formed, front_middle}
 use Rattle.access.specs.Change.{store_from, success, change_one, ChangedAll, change_all}
@@ -117,7 +118,7 @@ abbrev Writes : (Row → ℕ → Type 0) → Row → ℕ → Type 0
 Writes May q j = (q.writable ≡ true) × May q j
 
 change_kept : (a : Address) (b : Block) → BlockFits change_block_fits b → (p : List ℕ) → Kept (Writes (StoredBy a (change_one a b p))) p (change_one a b p).part
-change_kept a b g p = change_cases a b p (λ c. Kept (Writes (StoredBy a c)) p c.part) (λ e small. kept_none p) stores
+change_kept a b g p = change_cases a b p (λ c. Kept (Writes (StoredBy a c)) p c.part) (λ e. kept_none p) stores
   where
     stores : (s : Storable a b) → Named a s.row s.number → let c = success s.row a.subindex b.values p in Kept (Writes (StoredBy a c)) p c.part
     stores s named =
@@ -156,7 +157,7 @@ all_beyond [] sent p = refl
 all_beyond (a ∷ more) [] p = refl
 all_beyond (a ∷ more) (b ∷ sent) p =
     all_beyond more sent (change_one a b p).part
-    ∙ change_cases a b p (λ c. drop parameter_bytes c.part ≡ drop parameter_bytes p) (λ e small. refl)
+    ∙ change_cases a b p (λ c. drop parameter_bytes c.part ≡ drop parameter_bytes p) (λ e. refl)
     (λ s named. store_beyond s.row named.row a.subindex b.values p (omega (arith, s.count, named.room)))
 
 pub versions_follow : VersionsFollow

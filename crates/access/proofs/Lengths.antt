@@ -1,4 +1,6 @@
 -- Whatever is worked on a part, it leaves as many bytes.
+use Rattle.std.specs.Prelude.{Result, Ok, Err}
+use Rattle.access.specs.declared.error.ParameterError.{ParameterError}
 use mathlib.Core.Path.{◌≡◌, refl, ◌∙◌}
 use mathlib.Core.Bool.{Bool, not, ◌||◌}
 use mathlib.Core.List.{List, [], ◌∷◌}
@@ -15,8 +17,6 @@ use Rattle.catalogue.specs.Element.{size_code, type_code, put_element}
 use Rattle.catalogue.proofs.Elements.{element_length}
 use Rattle.part.proofs.Laws.{response_length}
 use Rattle.part.proofs.Versions.{version_length}
-use Rattle.access.specs.declared.Checked.{Checked}
-use Rattle.access.specs.declared.Checked.TheVariants.{Elements, Error}
 use Rattle.access.specs.Address.{checked}
 use Rattle.access.specs.Change.{Changed, all_inside, store_from, of_checked, change_one, change_all}
 use Rattle.access.specs.Work.{Worked, Outcome, worked, exhausts, admitted_if, outcome_of}
@@ -30,9 +30,9 @@ store_length : (r : Row) (i : ℕ) (xs p : List ℕ) → length (store_from r i 
 store_length r i [] p = refl
 store_length r i (x ∷ xs) p = store_length r (i + 1) xs (put_element r i x p) ∙ element_length r i x p
 
-checked_length : (a : Address) (b : Block) (p : List ℕ) (c : Checked) → Long p (of_checked a b p c)
-checked_length a b p (Error e) = refl
-checked_length a b p (Elements r n) =
+checked_length : (a : Address) (b : Block) (p : List ℕ) (c : Result (Row × ℕ) ParameterError) → Long p (of_checked a b p c)
+checked_length a b p (Err e) = refl
+checked_length a b p (Ok (r, n)) =
     pick (Long p) (not r.writable) (λ t. refl) (λ t.
     pick (Long p) (not (eqb b.format (size_code r.kind) || eqb b.format (type_code r.kind))) (λ u. refl) (λ u.
     pick (Long p) (not (eqb (length b.values) n)) (λ v. refl) (λ v.

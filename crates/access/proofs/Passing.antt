@@ -1,4 +1,7 @@
 -- Every answer passes the checker for its request: a block of values has as many as its address asks, and no other is counted.
+use Rattle.std.specs.Prelude.{Result, Ok, Err}
+use Rattle.catalogue.specs.declared.Row.{Row}
+use Rattle.access.specs.declared.error.ParameterError.{ParameterError}
 use mathlib.Core.Path.{◌≡◌, refl, ◌∙◌}
 use mathlib.Core.Bool.{Bool, true, false, cond, not, ◌&&◌, ◌||◌}
 use mathlib.Core.List.{List, [], ◌∷◌}
@@ -20,8 +23,6 @@ use Rattle.checker.specs.Check.{is_values, elements_asked, count_fits, counts_fi
 use Rattle.checker.specs.Laws.{Matches}
 use Rattle.checker.proofs.Laws.{each_counted}
 use Rattle.catalogue.specs.Element.{size_code}
-use Rattle.access.specs.declared.Checked.{Checked}
-use Rattle.access.specs.declared.Checked.TheVariants.{Elements, Error}
 use Rattle.access.specs.Address.{checked}
 use Rattle.access.specs.Read.{elements_from, block_size, answer_to, read_block, read_blocks}
 use Rattle.access.specs.Work.{worked}
@@ -41,9 +42,9 @@ read_fitting : (p : List ℕ) (used after : ℕ) (a : Address) → Fitting a (re
 unfolding read_block
 read_fitting p used after a = go (checked a) (checked_fits a)
   where
-    go : (c : Checked) → CheckedFits a c → Fitting a (answer_to p used after a c)
-    go (Error e) small = refl
-    go (Elements r n) h =
+    go : (c : Result (Row × ℕ) ParameterError) → CheckedFits a c → Fitting a (answer_to p used after a c)
+    go (Err e) small = refl
+    go (Ok (r, n)) h =
         let b : Block = record { format = size_code r.kind; values = elements_from r a.subindex n p } in
         pick (Fitting a) (leb (used + block_size b + 4 * after) block_limit)
         (λ t. as_many (is_values b.format) (length b.values) a.elements (elements_count r a.subindex n p ∙ h.asked))

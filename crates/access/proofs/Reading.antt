@@ -1,16 +1,20 @@
 -- The loop over the addresses of a request: what is left to answer from where it stands is what was to be answered at first.
-use Rattle.std.specs.Prelude.{Option, Some, None}
-use mathlib.Core.Path.{◌≡◌, sym, ◌∙◌, ap}
-use mathlib.Core.Bool.{Bool, false, ◌||◌}
+use Rattle.std.specs.Prelude.{Some, None}
+use mathlib.Core.Path.{◌≡◌, refl, sym, ◌∙◌, ap}
+use mathlib.Core.Bool.{Bool, true, false, cond, ◌||◌}
 use mathlib.Core.List.{List, ◌∷◌}
 use Prim.Native.Nat.{ℕ, zero, suc, ◌+◌, ◌-◌, ◌*◌, ◌≤◌, ◌<◌}
 use native.Mathlib.Omega.{arith}
 use native.Mathlib.Numerals.{sub-one}
-use lib.ListN.{length}
+use lib.Dec.{leb}
+use lib.ListN.{length, drop}
+use Rattle.codes.specs.Code.{Got, got, bad}
+use Rattle.codes.specs.Number.{value_or}
+use Rattle.blocks.specs.Request.{address}
 use Rattle.codes.proofs.Put.{put_length}
 use Rattle.blocks.specs.Block.{block_limit}
 use Rattle.blocks.specs.Page.{block_bytes}
-use Rattle.blocks.specs.Place.{onward, step_at, walk}
+use Rattle.blocks.specs.Place.{no_address, address_in, addresses_end, step_of, onward, step_at, walk}
 use Rattle.blocks.specs.declared.reader.Address.{Address}
 use Rattle.access.specs.declared.reply.Written.{Written}
 use Rattle.access.specs.Read.{block_size, read_block, read_blocks}
@@ -23,9 +27,15 @@ pub walk_next : (s : List ℕ) (at left : ℕ) (a : Address) (next : ℕ) → st
 walk_next s at left a next e = ap (onward (walk left s)) e
 
 -- addresses are left, so one stands here
-pub walk_end : (s : List ℕ) (at left : ℕ) → 0 < left → length (walk left s at) ≡ left → step_at s at ≡ None → ⊥
-walk_end s at zero h w e = omega arith
-walk_end s at (suc left) h w e = let z : length (walk (suc left) s at) ≡ 0 = ap (λ (x : Option (Address × ℕ)). length (onward (walk left s) x)) e in omega arith
+pub step_left : (s : List ℕ) (at left : ℕ) → 0 < left → length (walk left s at) ≡ left → step_at s at ≡ Some (address_in s at, at + 6)
+unfolding step_at
+step_left s at zero h w = absurd (omega arith)
+step_left s at (suc left) h w = go (leb (at + 6) (addresses_end s)) (address.read (drop at s)) w
+  where
+    go : (b : Bool) (g : Got Address) → length (onward (walk left s) (cond b (step_of (at + 6) g) None)) ≡ suc left → cond b (step_of (at + 6) g) None ≡ Some (value_or no_address g, at + 6)
+    go true (got x t) e = refl
+    go true bad e = absurd (omega arith)
+    go false g e = absurd (omega arith)
 
 pub record Reading (p s : List ℕ) (n : ℕ) (out₀ out : List ℕ) (at used : ℕ) (error : Bool) (left : ℕ) : Type 0 where
   pub whole : length (walk left s at) ≡ left

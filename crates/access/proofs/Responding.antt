@@ -1,5 +1,7 @@
 -- The response that waits: a header over the first bytes of an array, and the blocks that stand after it; for a change, the refusal by 15
 -- and the version before it.
+use Rattle.access.specs.declared.error.Refused.TheVariants.{UsedUp}
+use Rattle.std.specs.Prelude.{Ok, Err}
 use mathlib.Core.Path.{◌≡◌, refl, sym, ◌∙◌, ap, subst}
 use mathlib.Core.Bool.{Bool, true, false, cond, not, ◌&&◌, and-false}
 use mathlib.Core.List.{List, [], ◌++◌}
@@ -106,7 +108,7 @@ module _ (s : List ℕ) (e : readable block_limit request s ≡ true) (h : Heade
         (subst (λ (them : List Address). DidAll (change_all them (blocks_in h.count s (4 + h.count * 6)) (take n p)) left l body d) (walk_is s e h eh) o))
 
     -- something would be stored, and the numbers are used up
-    pub change_refused : only ≡ used_up p → only ≡ true → (d.stored ≡ 0 → ⊥) → Reported (change_outcome r p) q (record { number = 15; stored = 0 })
+    pub change_refused : only ≡ used_up p → only ≡ true → (d.stored ≡ 0 → ⊥) → Reported (change_outcome r p) q (Err UsedUp)
     change_refused u t some =
         let spent : used_up p ≡ true = sym u ∙ t in
         let stored : eqb c.stored 0 ≡ false = ne_eqb c.stored 0 (λ z. some (same.stored ∙ z)) in
@@ -129,17 +131,17 @@ module _ (s : List ℕ) (e : readable block_limit request s ≡ true) (h : Heade
               let none : eqb c.stored 0 ≡ true = eq-eqb c.stored 0 zero in
               (rw (none, and-false) refl, x.1 ∙ (same.part ∙ (pick (λ y. y ≡ c.part) only (λ e. sym (none_stored r.addresses r.blocks p zero)) (λ e. refl) ∙ rw none refl)))
 
-      answered : (m : List ℕ) → m ≡ with_response (response.write (worked_change r p).response) t → Reported (change_outcome r p) m (record { number = 0; stored = d.stored })
+      answered : (m : List ℕ) → m ≡ with_response (response.write (worked_change r p).response) t → Reported (change_outcome r p) m (Ok d.stored)
       answered m k =
           rw goes_on.0 (record { number = refl; stored = same.stored; part = k ∙ ap (with_response (response.write (worked_change r p).response)) goes_on.1 })
 
-      pub change_failed : d.error ≡ true → (m : List ℕ) → m ≡ with_response (header_bytes (named h 0x82) ++ take (d.next - 4) (drop 4 body)) t → Reported (change_outcome r p) m (record { number = 0; stored = d.stored })
+      pub change_failed : d.error ≡ true → (m : List ℕ) → m ≡ with_response (header_bytes (named h 0x82) ++ take (d.next - 4) (drop 4 body)) t → Reported (change_outcome r p) m (Ok d.stored)
       change_failed f m k =
           let w : has_error c.blocks ≡ true = sym same.wrote.error ∙ f in
           answered m
           (k ∙ (ap (λ (x : List ℕ). with_response x t) (full 0x82 c.blocks body (record { next = d.next; error = d.error }) same.wrote change_room.1) ∙ rw w refl))
 
-      pub change_done : d.error ≡ false → (m : List ℕ) → m ≡ with_response (header_bytes (named h 0x02) ++ take (4 - 4) (drop 4 body)) t → Reported (change_outcome r p) m (record { number = 0; stored = d.stored })
+      pub change_done : d.error ≡ false → (m : List ℕ) → m ≡ with_response (header_bytes (named h 0x02) ++ take (4 - 4) (drop 4 body)) t → Reported (change_outcome r p) m (Ok d.stored)
       change_done f m k =
           let w : has_error c.blocks ≡ false = sym same.wrote.error ∙ f in
           answered m (k ∙ (ap (λ (x : List ℕ). with_response x t) (bare 0x02 []) ∙ rw w refl))

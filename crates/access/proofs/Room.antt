@@ -1,4 +1,6 @@
 -- The bytes that the blocks of a read take: four are kept for each address after a block, so all of them fit.
+use Rattle.std.specs.Prelude.{Result, Ok, Err}
+use Rattle.access.specs.declared.error.ParameterError.{ParameterError}
 use mathlib.Core.Path.{◌≡◌, refl, sym, ◌∙◌, ap, subst}
 use mathlib.Core.Bool.{Bool, true, false, cond}
 use mathlib.Core.List.{List, [], ◌∷◌}
@@ -19,9 +21,8 @@ use Rattle.catalogue.specs.declared.Kind.TheVariants.{U8, U16, I16, I32}
 use Rattle.catalogue.specs.declared.Row.{Row}
 use Rattle.catalogue.specs.Table.{element_size}
 use Rattle.catalogue.specs.Element.{size_code}
-use Rattle.access.specs.declared.Checked.{Checked}
-use Rattle.access.specs.declared.Checked.TheVariants.{Elements, Error}
-use Rattle.access.specs.Address.{checked, error_block}
+use Rattle.access.specs.declared.error.ParameterError.TheVariants.{NoRoom}
+use Rattle.access.specs.Address.{checked, error_number, error_block}
 use Rattle.access.specs.Read.{elements_from, block_size, fitted, answer_to, read_block, read_blocks}
 use Rattle.access.specs.Walk.{Wrote}
 use Rattle.access.proofs.Gathered.{elements_length}
@@ -30,8 +31,8 @@ use Rattle.access.proofs.Answers.{size_same}
 pub size_written : (b : Block) → block_size b ≡ length (block_bytes b)
 size_written b = block_written b.format (length b.values) b.values refl
 
-pub error_size : (e : ℕ) → length (block_bytes (error_block e)) ≡ 4
-error_size e = ap length (error_bytes e)
+pub error_size : (e : ParameterError) → length (block_bytes (error_block e)) ≡ 4
+error_size e = ap length (error_bytes (error_number e))
 
 -- a size code is no error's format
 no_error : (k : Kind) → eqb (size_code k) 0x44 ≡ false
@@ -51,7 +52,7 @@ module _ (r : Row) (i n : ℕ) (p : List ℕ) (w : ℕ) (wide : w ≡ element_si
       let e : n * value_size k ≡ n * w = ap (λ (z : ℕ). n * z) (size_same r.kind ∙ sym wide) in
       rw (elements_length r p i n) (omega (arith, sized, e, values_size_lem k n, fill_even k n))
 
-  pub elements_unfit : block_limit < at + size + 4 * after → error_block 0x15 ≡ fitted at after b
+  pub elements_unfit : block_limit < at + size + 4 * after → error_block NoRoom ≡ fitted at after b
   elements_unfit h = rw (lt-leb (at + block_size b + 4 * after) block_limit (omega (arith, size_is)))
 
   elements_fit : at + size + 4 * after ≤ block_limit → fitted at after b ≡ b
@@ -67,7 +68,7 @@ module _ (r : Row) (i n : ℕ) (p : List ℕ) (w : ℕ) (wide : w ≡ element_si
       })
 
 -- what the checks of an address say decides its block
-pub block_is : (p : List ℕ) (at after : ℕ) (a : Address) (c : Checked) → c ≡ checked a → answer_to p at after a c ≡ read_block p at after a
+pub block_is : (p : List ℕ) (at after : ℕ) (a : Address) (c : Result (Row × ℕ) ParameterError) → c ≡ checked a → answer_to p at after a c ≡ read_block p at after a
 unfolding read_block
 block_is p at after a c e = ap (answer_to p at after a) e
 
@@ -76,17 +77,17 @@ module _ (p : List ℕ) (at after : ℕ) (h : at + 4 * suc after ≤ block_limit
   fitted_room : (b : Block) → at + length (block_bytes (fitted at after b)) + 4 * after ≤ block_limit
   fitted_room b = go (leb (at + block_size b + 4 * after) block_limit) refl
     where
-      go : (t : Bool) → leb (at + block_size b + 4 * after) block_limit ≡ t → at + length (block_bytes (cond t b (error_block 0x15))) + 4 * after ≤ block_limit
+      go : (t : Bool) → leb (at + block_size b + 4 * after) block_limit ≡ t → at + length (block_bytes (cond t b (error_block NoRoom))) + 4 * after ≤ block_limit
       go true e = omega (arith, leb-true (at + block_size b + 4 * after) block_limit e, size_written b)
-      go false e = omega (arith, error_size 0x15)
+      go false e = omega (arith, error_size NoRoom)
 
   pub block_room : (a : Address) → at + length (block_bytes (read_block p at after a)) + 4 * after ≤ block_limit
   unfolding read_block
   block_room a = go (checked a)
     where
-      go : (c : Checked) → at + length (block_bytes (answer_to p at after a c)) + 4 * after ≤ block_limit
-      go (Error e) = omega (arith, error_size e)
-      go (Elements r n) = fitted_room (record { format = size_code r.kind; values = elements_from r a.subindex n p })
+      go : (c : Result (Row × ℕ) ParameterError) → at + length (block_bytes (answer_to p at after a c)) + 4 * after ≤ block_limit
+      go (Err e) = omega (arith, error_size e)
+      go (Ok (r, n)) = fitted_room (record { format = size_code r.kind; values = elements_from r a.subindex n p })
 
 pub blocks_room : (p : List ℕ) (them : List Address) (at : ℕ) → at + 4 * length them ≤ block_limit → at + length (write_all block_bytes (read_blocks p at them)) ≤ block_limit
 blocks_room p [] at h = omega arith

@@ -1,4 +1,5 @@
 -- The values of one address: where they stand in its block, and the loops that test and store them.
+use Rattle.std.specs.Prelude.{Ok, Err}
 use mathlib.Core.Path.{◌≡◌, refl, sym, ◌∙◌, ap}
 use mathlib.Core.Bool.{true, false, ◌&&◌}
 use mathlib.Core.List.{List, [], ◌∷◌}
@@ -21,7 +22,7 @@ use Rattle.catalogue.specs.declared.Row.{Row}
 use Rattle.catalogue.specs.Table.{element_size}
 use Rattle.catalogue.specs.Element.{inside, element_place, put_element}
 use Rattle.catalogue.proofs.Elements.{size_small}
-use Rattle.access.specs.declared.change.Done.{Done}
+use Rattle.access.specs.declared.error.ParameterError.TheVariants.{OutsideLimits}
 use Rattle.access.specs.Address.{empty_block}
 use Rattle.access.specs.Change.{all_inside, store_from, store_whole}
 use Rattle.access.specs.Walk.{block_in, Did}
@@ -79,9 +80,6 @@ module _ (r : Row) (w n : ℕ) (s : List ℕ) (at₀ at left : ℕ) (c : Testing
     pub test_stop : inside r (number_at w s at) ≡ false → false ≡ all_inside r (numbers_at w n s at₀)
     test_stop t = rw t at here
 
-  pub test_end : left ≡ 0 → true ≡ all_inside r (numbers_at w n s at₀)
-  test_end e = rw e at c.todo
-
 -- The loop that stores: what is left to store from where it stands is what was to be stored at first.
 pub record Storing (r : Row) (w n : ℕ) (s : List ℕ) (at₀ i : ℕ) (p₀ p : List ℕ) (at to left : ℕ) : Type 0 where
   pub room : at + left * w ≤ length s
@@ -98,9 +96,6 @@ module _ (r : Row) (w n : ℕ) (s : List ℕ) (at₀ i : ℕ) (p₀ p : List ℕ
         size = k ∙ c.size;
         todo = rw (q, e) (ap (λ (xs : List ℕ). store_from r to xs p) (sym (values_next w left s at h)) ∙ c.todo);
       }
-
-  pub store_end : left ≡ 0 → p ≡ store_from r i (numbers_at w n s at₀) p₀
-  store_end e = rw e at c.todo
 
 -- Where all of them fit, they are stored as the bytes that they stand in.
 module _ (r : Row) where
@@ -127,9 +122,9 @@ module _ (r : Row) where
 
 -- all are inside and are stored, or one is not and none is
 pub whole_stored : (r : Row) (i w n : ℕ) (s : List ℕ) (at : ℕ) (p m : List ℕ) → n ≤ buffer_codes → true ≡ all_inside r (numbers_at w n s at) → m ≡ store_from r i (numbers_at w n s at) p
-    → Did (store_whole r i (numbers_at w n s at) p) m (record { failed = false; error = 0; stored = n })
+    → Did (store_whole r i (numbers_at w n s at) p) m (Ok n)
 whole_stored r i w n s at p m few t e = rw (← t) (record { block = refl; part = e; stored = sym (numbers_length w n s at); few = few })
 
-pub none_stored : (r : Row) (i w n : ℕ) (s : List ℕ) (at : ℕ) (p : List ℕ) (d : Done) → false ≡ all_inside r (numbers_at w n s at) → d ≡ record { failed = true; error = 0x02; stored = 0 }
-    → Did (store_whole r i (numbers_at w n s at) p) p d
-none_stored r i w n s at p d t e = rw (← t) (did_fail 0x02 p d e)
+pub none_stored : (r : Row) (i w n : ℕ) (s : List ℕ) (at : ℕ) (p : List ℕ) → false ≡ all_inside r (numbers_at w n s at)
+    → Did (store_whole r i (numbers_at w n s at) p) p (Err OutsideLimits)
+none_stored r i w n s at p t = rw (← t) (did_fail OutsideLimits p)

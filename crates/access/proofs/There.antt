@@ -1,5 +1,7 @@
 -- What an address stored is there when the change is over, where no later one stored it again; an address is stored whole or not at all,
 -- exactly when it can be, and answered and counted so; what is read is there.
+use Rattle.access.specs.declared.error.ParameterError.TheVariants.{ReadOnly, WrongType, WrongCount}
+use Rattle.std.specs.Prelude.{Result, Ok, Err}
 use mathlib.Core.Path.{◌≡◌, refl, sym, ap, subst, ◌∙◌}
 use mathlib.Core.Bool.{true, false, ◌||◌, or-true, true≢false, and-eq-true_iff}
 use mathlib.Core.List.{List, [], ◌∷◌, ◌++◌, Memᴰ}
@@ -21,7 +23,6 @@ use Rattle.catalogue.specs.Table.{rows, parameter_bytes, element_size}
 use Rattle.catalogue.specs.Element.{size_code, type_code, inside, element_of, put_element}
 use Rattle.catalogue.proofs.Elements.{element_length, element_stored}
 use Rattle.catalogue.proofs.Rows.{found_row, element_inside}
-use Rattle.access.specs.declared.Checked.TheVariants.{Elements}
 use Rattle.access.specs.Address.{empty_block}
 use Rattle.access.specs.Read.{elements_from, block_size, read_block}
 use Rattle.access.specs.Change.{Changed, failure, all_inside, store_from, success, change_one, change_all}
@@ -61,6 +62,11 @@ store_there r m i (x ∷ xs) p room long small ok k h = go k (store_there r m (i
         let z : i + suc j ≡ i + 1 + j = omega arith in
         rw z (more j (omega arith))
 
+-- what an Ok holds
+abbrev got_or : {A E : Type 0} → A → Result A E → A
+got_or d (Ok x) = x
+got_or d (Err e) = d
+
 -- one address with its block of values, where it answers no error: an element that it names is one of its row's, and is there
 module _ (a : Address) (b : Block) (g : BlockFits change_block_fits b) (p : List ℕ) (long : parameter_bytes ≤ length p) (q : Row) (j : ℕ) (named : Names a q j) where
   There : Changed → Type 0
@@ -68,13 +74,14 @@ module _ (a : Address) (b : Block) (g : BlockFits change_block_fits b) (p : List
 
   change_there : There (change_one a b p)
   unfolding There
-  change_there = change_cases a b p There (λ x small e. absurd (true≢false e)) stores
+  change_there = change_cases a b p There (λ x e. absurd (true≢false e)) stores
     where
       stores : (s : Storable a b) → Named a s.row s.number → There (success s.row a.subindex b.values p)
       stores s n e =
-          let same : Elements q named.number ≡ Elements s.row s.number = sym named.passed ∙ s.passed in
-          let row : q ≡ s.row = cc in
-          let number : named.number ≡ s.number = cc in
+          let same : Ok (q, named.number) ≡ Ok (s.row, s.number) = sym named.passed ∙ s.passed in
+          let both : (q, named.number) ≡ (s.row, s.number) = ap (got_or (q, 0)) same in
+          let row : q ≡ s.row = ap (λ (x : Row × ℕ). x.0) both in
+          let number : named.number ≡ s.number = ap (λ (x : Row × ℕ). x.1) both in
           let place : a.subindex + (j - a.subindex) ≡ j = omega (arith, named.low) in
           let there =
           store_there s.row n.row a.subindex b.values p (omega (arith, s.count, n.room)) long (storable_small a b s g) s.limits (j - a.subindex)
@@ -117,7 +124,7 @@ pub whole_or_none : WholeOrNone
 whole_or_none a b p =
     change_cases a b p
     (λ c. (is_error c.block ≡ false → c.stored ≡ length b.values) × (is_error c.block ≡ true → (c.stored ≡ 0) × (c.part ≡ p)))
-    (λ x small. ((λ e. absurd (true≢false e)), (λ e. (refl, refl))))
+    (λ x. ((λ e. absurd (true≢false e)), (λ e. (refl, refl))))
     (λ s named. ((λ e. refl), (λ e. absurd (true≢false (sym e)))))
 
 -- the tests pass an address that can be stored
@@ -134,14 +141,14 @@ unfolding change_one
 answered_exactly a b p = (storable, answers)
   where
     storable : is_error (change_one a b p).block ≡ false → Storable a b
-    storable = change_cases a b p (λ c. is_error c.block ≡ false → Storable a b) (λ x small e. absurd (true≢false e)) (λ s named e. s)
+    storable = change_cases a b p (λ c. is_error c.block ≡ false → Storable a b) (λ x e. absurd (true≢false e)) (λ s named e. s)
 
     answers : Storable a b → is_error (change_one a b p).block ≡ false
     answers s =
         let k = s.row.kind in
         rw s.passed
         (sym (ap (λ (c : Changed). is_error c.block)
-        (three_passed s.row.writable (eqb b.format (size_code k) || eqb b.format (type_code k)) (eqb (length b.values) s.number) (failure 0x01 p) (failure 0x05 p) (failure 0x18 p) _ s.writable (is_kind k b.format s.format) (eq-eqb (length b.values) s.number s.count)))
+        (three_passed s.row.writable (eqb b.format (size_code k) || eqb b.format (type_code k)) (eqb (length b.values) s.number) (failure ReadOnly p) (failure WrongType p) (failure WrongCount p) _ s.writable (is_kind k b.format s.format) (eq-eqb (length b.values) s.number s.count)))
         ∙ rw (limits_all s.row b.values s.limits))
 
 -- each in its place

@@ -32,9 +32,6 @@ module _ (x : ℕ) (hx : x < 256) where
     both : to_z w32 (of_z w32 (to_z w32 x *ℤ pos 256)) +ℤ to_z w32 y ≡ pos (x * 256 + y)
     both = rw (held w32 high (record { sfits = omega arith }), to_z_pos w32 {n = y} (omega arith)) refl
 
-    pub both_fits : SFits w32 (to_z w32 (of_z w32 (to_z w32 x *ℤ pos 256)) +ℤ to_z w32 y)
-    both_fits = subst (SFits w32) (sym both) (record { sfits = omega arith })
-
     pub both_are : to_z w32 (of_z w32 (to_z w32 (of_z w32 (to_z w32 x *ℤ pos 256)) +ℤ to_z w32 y)) ≡ pos (x * 256 + y)
     both_are = held w32 both (record { sfits = omega arith })
 

@@ -1,11 +1,11 @@
 -- Document 01, "For a change then", and document 02, R-6: a change (02) worked on a part, address by address.
-use Rattle.std.specs.Prelude.{Bool, true, cond, not, ◌&&◌, ◌||◌, List, [], ◌∷◌, ℕ, ◌+◌, eqb, length}
+use Rattle.access.specs.declared.error.ParameterError.TheVariants.{ReadOnly, OutsideLimits, WrongType, WrongCount}
+use Rattle.access.specs.declared.error.ParameterError.{ParameterError}
+use Rattle.std.specs.Prelude.{Bool, true, cond, not, ◌&&◌, ◌||◌, List, [], ◌∷◌, ℕ, ◌+◌, eqb, length, Result, Ok, Err}
 use Rattle.blocks.specs.Block.{Block}
 use Rattle.blocks.specs.declared.reader.Address.{Address}
 use Rattle.catalogue.specs.declared.Row.{Row}
 use Rattle.catalogue.specs.Element.{size_code, type_code, inside, put_element}
-use Rattle.access.specs.declared.Checked.{Checked}
-use Rattle.access.specs.declared.Checked.TheVariants.{Elements, Error}
 use Rattle.access.specs.Address.{checked, error_block, empty_block}
 
 -- what an address of a change comes to: its block, the part after it, and how many elements were stored
@@ -14,7 +14,7 @@ pub record Changed : Type 0 where
   pub part : List ℕ
   pub stored : ℕ
 
-abbrev pub failure : ℕ → List ℕ → Changed
+abbrev pub failure : ParameterError → List ℕ → Changed
 failure e p = record { block = error_block e; part = p; stored = 0 }
 
 -- "every element is within limits"
@@ -33,20 +33,20 @@ success r i xs p = record { block = empty_block; part = store_from r i xs p; sto
 
 -- R-6: "for one address, nothing is stored unless every element is within limits; the error stays 0x02, that of the first bad element"
 abbrev pub store_whole : Row → ℕ → List ℕ → List ℕ → Changed
-store_whole r i xs p = cond (all_inside r xs) (success r i xs p) (failure 0x02 p)
+store_whole r i xs p = cond (all_inside r xs) (success r i xs p) (failure OutsideLimits p)
 
 -- "not writable 0x01; format neither the size code nor the type code of the parameter (U8 5, I16 3, U16 6, I32 4) 0x05; number of
 -- values not the elements 0x18"
 abbrev pub of_elements : Address → Block → List ℕ → Row → ℕ → Changed
 of_elements a b p r n =
-    cond (not r.writable) (failure 0x01 p)
-    (cond (not (eqb b.format (size_code r.kind) || eqb b.format (type_code r.kind))) (failure 0x05 p)
-    (cond (not (eqb (length b.values) n)) (failure 0x18 p)
+    cond (not r.writable) (failure ReadOnly p)
+    (cond (not (eqb b.format (size_code r.kind) || eqb b.format (type_code r.kind))) (failure WrongType p)
+    (cond (not (eqb (length b.values) n)) (failure WrongCount p)
     (store_whole r a.subindex b.values p)))
 
-abbrev pub of_checked : Address → Block → List ℕ → Checked → Changed
-of_checked a b p (Error e) = failure e p
-of_checked a b p (Elements r n) = of_elements a b p r n
+abbrev pub of_checked : Address → Block → List ℕ → Result (Row × ℕ) ParameterError → Changed
+of_checked a b p (Err e) = failure e p
+of_checked a b p (Ok (r, n)) = of_elements a b p r n
 
 -- one address with its block of values
 unfoldable pub change_one : Address → Block → List ℕ → Changed

@@ -1,6 +1,6 @@
 -- What callers may cite of every request that is worked on a part, whatever that part holds: from document 01, "Response block",
 -- "Parameters of each axis" and "A part is well-formed", and document 02, R-4 and R-6. Each is a statement here and a proof in proofs/.
-use Rattle.std.specs.Prelude.{◌≡◌, true, false, cond, ◌||◌, ◌⊎◌, ◌↔◌, ℕ, ◌+◌, ◌-◌, ◌≤◌, ◌<◌, eqb, length, get_or, Some}
+use Rattle.std.specs.Prelude.{◌≡◌, true, false, cond, ◌||◌, ◌⊎◌, ◌↔◌, ℕ, ◌+◌, ◌-◌, ◌≤◌, ◌<◌, eqb, length, get_or, Some, Ok}
 use mathlib.Core.List.{List, [], ◌∷◌, ◌++◌, Memᴰ}
 use Rattle.codes.specs.Code.{AllOf, readable}
 use Rattle.blocks.specs.Block.{Block, block_limit}
@@ -16,7 +16,6 @@ use Rattle.catalogue.specs.Element.{size_code, type_code, inside, element_of}
 use Rattle.versions.specs.Keep.{taken}
 use Rattle.part.specs.Layout.{part_size, middle, versions}
 use Rattle.part.specs.WellFormed.{well_formed}
-use Rattle.access.specs.declared.Checked.TheVariants.{Elements}
 use Rattle.access.specs.Address.{checked, empty_block}
 use Rattle.access.specs.Read.{read_block, read_blocks}
 use Rattle.access.specs.Change.{Changed, change_one, change_all}
@@ -82,14 +81,14 @@ ReadKeeps = (r : Request) (p : List ℕ) → r.identifier ≡ 1 → ((worked r p
 -- What is read is there: a block of values holds the elements that its address names, in order.
 abbrev pub ReadIsThere : Type 0
 ReadIsThere =
-    (a : Address) (p : List ℕ) (used after : ℕ) (q : Row) (n k : ℕ) → checked a ≡ Elements q n → is_error (read_block p used after a) ≡ false → k < n
+    (a : Address) (p : List ℕ) (used after : ℕ) (q : Row) (n k : ℕ) → checked a ≡ Ok (q, n) → is_error (read_block p used after a) ≡ false → k < n
     → get_or (read_block p used after a).values k 0 ≡ element_of q (a.subindex + k) p
 
 -- an address names element j of a row: it passes the checks, and j is one of its elements from its sub-index on
 pub record Names (a : Address) (q : Row) (j : ℕ) : Type 0 where
   pub found : find_of a.pnu ≡ Some q
   pub number : ℕ
-  pub passed : checked a ≡ Elements q number
+  pub passed : checked a ≡ Ok (q, number)
   pub low : a.subindex ≤ j
   pub high : j < a.subindex + number
 
@@ -170,7 +169,7 @@ WholeOrNone =
 pub record Storable (a : Address) (b : Block) : Type 0 where
   pub row : Row
   pub number : ℕ
-  pub passed : checked a ≡ Elements row number
+  pub passed : checked a ≡ Ok (row, number)
   pub writable : row.writable ≡ true
   pub format : (b.format ≡ size_code row.kind) ⊎ (b.format ≡ type_code row.kind)
   pub count : length b.values ≡ number

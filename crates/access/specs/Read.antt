@@ -1,11 +1,11 @@
 -- Document 01, "Parameters of each axis", with 02's R-2: a request (01) worked on a part, and the rule of 0x15.
-use Rattle.std.specs.Prelude.{cond, List, [], ◌∷◌, ℕ, zero, suc, ◌+◌, ◌*◌, leb, length}
+use Rattle.access.specs.declared.error.ParameterError.TheVariants.{NoRoom}
+use Rattle.access.specs.declared.error.ParameterError.{ParameterError}
+use Rattle.std.specs.Prelude.{cond, List, [], ◌∷◌, ℕ, zero, suc, ◌+◌, ◌*◌, leb, length, Result, Ok, Err}
 use Rattle.blocks.specs.Block.{Block, block_limit, values_size}
 use Rattle.blocks.specs.declared.reader.Address.{Address}
 use Rattle.catalogue.specs.declared.Row.{Row}
 use Rattle.catalogue.specs.Element.{size_code, element_of}
-use Rattle.access.specs.declared.Checked.{Checked}
-use Rattle.access.specs.declared.Checked.TheVariants.{Elements, Error}
 use Rattle.access.specs.Address.{checked, error_block}
 
 -- n elements of a row from element i on
@@ -19,11 +19,11 @@ block_size b = 2 + values_size b.format (length b.values)
 
 -- "A read value block is written, with its size code, only if it leaves 4 bytes of the 240 for each address after it; else 0x15."
 abbrev pub fitted : ℕ → ℕ → Block → Block
-fitted used after b = cond (leb (used + block_size b + 4 * after) block_limit) b (error_block 0x15)
+fitted used after b = cond (leb (used + block_size b + 4 * after) block_limit) b (error_block NoRoom)
 
-abbrev pub answer_to : List ℕ → ℕ → ℕ → Address → Checked → Block
-answer_to p used after a (Error e) = error_block e
-answer_to p used after a (Elements r n) =
+abbrev pub answer_to : List ℕ → ℕ → ℕ → Address → Result (Row × ℕ) ParameterError → Block
+answer_to p used after a (Err e) = error_block e
+answer_to p used after a (Ok (r, n)) =
     fitted used after (record { format = size_code r.kind; values = elements_from r a.subindex n p })
 
 -- the block for one address, with `used` bytes before it and `after` addresses to come

@@ -1,10 +1,12 @@
 -- Document 01, "Response block" and "Parameters of each axis", and document 02, R-7: a readable request worked on the part of its axis.
-use Rattle.std.specs.Prelude.{Bool, false, cond, not, ◌&&◌, List, [], ℕ, eqb, length}
+use Rattle.std.specs.Prelude.{Bool, false, cond, not, ◌&&◌, List, [], ℕ, eqb, length, Result, Ok, Err}
 use Rattle.codes.specs.Code.{Got, got, bad, readable}
 use Rattle.blocks.specs.Block.{Block, block_limit}
 use Rattle.blocks.specs.Request.{Request, request}
 use Rattle.blocks.specs.Response.{Response, has_error, response}
 use Rattle.part.specs.Layout.{with_response, with_version, used_up}
+use Rattle.access.specs.declared.error.Refused.{Refused}
+use Rattle.access.specs.declared.error.Refused.TheVariants.{Unreadable, ForeignAxis, UsedUp}
 use Rattle.access.specs.Read.{read_blocks}
 use Rattle.access.specs.Change.{change_all}
 
@@ -48,6 +50,21 @@ pub record Outcome : Type 0 where
   pub number : ℕ
   pub stored : ℕ
   pub part : List ℕ
+
+-- number 10, "block not readable", 11, "block's axis isn't the caller's", and 15, "numbers used up and an element would be stored"
+abbrev pub refused_number : Refused → ℕ
+refused_number Unreadable = 10
+refused_number ForeignAxis = 11
+refused_number UsedUp = 15
+
+-- the two, of what is told of it: how many elements were stored, or why it was refused
+abbrev pub number_in : Result ℕ Refused → ℕ
+number_in (Ok n) = 0
+number_in (Err r) = refused_number r
+
+abbrev pub stored_in : Result ℕ Refused → ℕ
+stored_in (Ok n) = n
+stored_in (Err r) = 0
 
 abbrev pub refused : ℕ → List ℕ → Outcome
 refused n p = record { number = n; stored = 0; part = p }

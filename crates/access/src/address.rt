@@ -1,49 +1,54 @@
 // What an address names: the elements of a parameter, or its error.
-ghost use Rattle.std.specs.Prelude.{◌≡◌, true, false, Some};
+ghost use Rattle.std.specs.Prelude.{◌≡◌, true, false, cond, eqb, Some};
+ghost use Rattle.access.specs.declared.error.ParameterError.TheVariants.{NoDescription, NoText, BadAddress};
 ghost use Rattle.access.specs.Address.{checked_in, checked};
 
-use super::Checked;
+use super::ParameterError;
 use blocks::reader::Address;
 use catalogue::Row;
 
 // A simple parameter, where its values are asked for.
-fn of_simple(a: Address, r: Row) -> Checked
+fn of_simple(a: Address, r: Row) -> Result<(Row, u16), ParameterError>
     requires { (a.attribute ≡ 0x10) × (r.simple ≡ true) }
     ensures { result ≡ checked_in a (Some r) }
 {
-    if a.subindex == 0 {
-        if a.elements <= 1 {
-            return Checked::Elements(r, 1);
-        }
+    if a.subindex == 0 && a.elements <= 1 {
+        Ok((r, 1))
+    } else {
+        Err(ParameterError::NoArray)
     }
-    Checked::Error(0x04)
 }
 
 // An array, where its values are asked for.
-fn of_array(a: Address, r: Row) -> Checked
+fn of_array(a: Address, r: Row) -> Result<(Row, u16), ParameterError>
     requires { (a.attribute ≡ 0x10) × (r.simple ≡ false) }
     ensures { result ≡ checked_in a (Some r) }
 {
     if a.elements == 0 {
-        return Checked::Error(0x16);
+        return Err(ParameterError::BadAddress);
     }
     if (r.count as usize) < (a.subindex as usize) + (a.elements as usize) {
-        return Checked::Error(0x03);
+        return Err(ParameterError::PastTheEnd);
     }
-    Checked::Elements(r, a.elements as u16)
+    Ok((r, a.elements as u16))
 }
 
-fn of_row(a: Address, r: Row) -> Checked
+// What asks for no values.
+fn of_attribute(attribute: u8) -> ParameterError
+    ensures { result ≡ cond (eqb attribute 0x20) NoDescription (cond (eqb attribute 0x30) NoText BadAddress) }
+{
+    match attribute {
+        0x20 => ParameterError::NoDescription,
+        0x30 => ParameterError::NoText,
+        _ => ParameterError::BadAddress,
+    }
+}
+
+fn of_row(a: Address, r: Row) -> Result<(Row, u16), ParameterError>
     ensures { result ≡ checked_in a (Some r) }
 {
-    if a.attribute == 0x20 {
-        return Checked::Error(0x09);
-    }
-    if a.attribute == 0x30 {
-        return Checked::Error(0x0F);
-    }
     if a.attribute != 0x10 {
-        return Checked::Error(0x16);
+        return Err(of_attribute(a.attribute));
     }
     if r.simple {
         of_simple(a, r)
@@ -52,23 +57,14 @@ fn of_row(a: Address, r: Row) -> Checked
     }
 }
 
-// The elements that an address of a request names, from its sub-index on, or its error. This stands twice, each with one caller: with two it
-// stays a call, which hands a whole row over in memory.
-pub fn check_read(a: Address) -> Checked
+// The row whose elements an address names, from its sub-index on, and how many they are; or its error. It stands in the place of its calls:
+// a call would hand a whole row over in memory.
+#[inline(always)]
+pub fn check(a: Address) -> Result<(Row, u16), ParameterError>
     ensures { result ≡ checked a }
 {
     let Some(r) = catalogue::find(a.pnu) else {
-        return Checked::Error(0x00);
-    };
-    of_row(a, r)
-}
-
-// The same of an address of a change.
-pub fn check_change(a: Address) -> Checked
-    ensures { result ≡ checked a }
-{
-    let Some(r) = catalogue::find(a.pnu) else {
-        return Checked::Error(0x00);
+        return Err(ParameterError::NoSuchParameter);
     };
     of_row(a, r)
 }

@@ -13,8 +13,8 @@ ghost use Rattle.access.specs.Change.{all_inside, store_from, store_whole, of_el
 ghost use Rattle.access.specs.Walk.{block_in, blocks_in, answer_in, Did, DidAll, Wrote, request_in, change_outcome, Reported};
 
 use super::reply::Written;
-use super::{Checked, Report, copies, reply};
-use blocks::reader::Address;
+use super::{ParameterError, Refused, address, copies, reply};
+use blocks::reader::{Address, FIRST, SIZE, address_of};
 use blocks::{Head, Header};
 use catalogue::{Kind, Row};
 
@@ -26,14 +26,6 @@ pub struct Values {
     pub count: u16,
 }
 
-// What an address came to: whether it failed, with which error, and how many elements were stored.
-#[derive(Clone, Copy)]
-pub struct Done {
-    pub failed: bool,
-    pub error: u16,
-    pub stored: u16,
-}
-
 // What all addresses came to: where their blocks end, whether one is an error, and how many elements were stored.
 #[derive(Clone, Copy)]
 pub struct Changes {
@@ -42,22 +34,11 @@ pub struct Changes {
     pub stored: u16,
 }
 
-fn fail(error: u16) -> Done
-    ensures { result ≡ record { failed = true; error = error; stored = 0 } }
-{
-    Done {
-        failed: true,
-        error,
-        stored: 0,
-    }
-}
-
 // Whether values of a format are of a parameter's type.
 fn is_format(k: Kind, f: u8) -> bool
     ensures { result ≡ (eqb f (size_code k) || eqb f (type_code k)) }
 {
-    let same_size = f == catalogue::size_code(k);
-    codes::either(same_size, f == catalogue::type_code(k))
+    f == catalogue::size_code(k) || f == catalogue::type_code(k)
 }
 
 // The value of a kind whose bytes stand at `at`: the width is known from the kind, so no bound of one or two bytes is tested.
@@ -80,14 +61,11 @@ fn all_inside(r: Row, block: &[u8], v: Values) -> bool
 {
     let k = r.kind;
     let mut at = v.at;
-    let mut untested = v.count;
-    while 0 < untested {
-        let x = value_here(k, block, at);
-        if !catalogue::is_within(r, x) {
+    for _ in 0..v.count {
+        if !catalogue::is_within(r, value_here(k, block, at)) {
             return false;
         }
         at += v.size;
-        untested -= 1;
     }
     true
 }
@@ -98,14 +76,9 @@ fn store_each(part: &mut [u8], r: Row, i: u16, block: &[u8], v: Values)
     ensures { part.new ≡ store_from r i (numbers_at v.size v.count block.now v.at) part.old }
 {
     let mut at = v.at;
-    let mut to = i;
-    let mut left = v.count;
-    while 0 < left {
-        let x = codes::number_at(block, at, v.size);
-        catalogue::put_element(part, r, to, x);
+    for to in i..i + v.count {
+        catalogue::put_element(part, r, to, codes::number_at(block, at, v.size));
         at += v.size;
-        to += 1;
-        left -= 1;
     }
 }
 
@@ -123,20 +96,22 @@ fn store(part: &mut [u8], r: Row, i: u16, block: &[u8], v: Values)
     }
 }
 
-// Stores all values in the elements of a row, from element i on, where all are inside its limits; else none, and that is 0x02.
-fn store_whole(part: &mut [u8], r: Row, i: u16, block: &[u8], v: Values) -> Done
+// Stores all values in the elements of a row, from element i on, where all are inside its limits; else none. Answers how many were stored.
+fn store_whole(
+    part: &mut [u8],
+    r: Row,
+    i: u16,
+    block: &[u8],
+    v: Values,
+) -> Result<u16, ParameterError>
     requires { (i + v.count ≤ buffer_codes) × (v.at + v.count * v.size ≤ length block.now) × (v.size ≡ element_size r.kind) }
     ensures { Did (store_whole r i (numbers_at v.size v.count block.now v.at) part.old) part.new result }
 {
     if !all_inside(r, block, v) {
-        return fail(0x02);
+        return Err(ParameterError::OutsideLimits);
     }
     store(part, r, i, block, v);
-    Done {
-        failed: false,
-        error: 0,
-        stored: v.count,
-    }
+    Ok(v.count)
 }
 
 // An address that names n elements of a row, with the block of values at `at`, which begins with `h`.
@@ -148,19 +123,19 @@ fn change_elements(
     block: &[u8],
     at: usize,
     h: Head,
-) -> Done
+) -> Result<u16, ParameterError>
     requires { (a.subindex + n ≤ buffer_codes) × (block_at block.now at ≡ Some h) }
     ensures { Did (of_elements a (block_in block.now at) part.old r n) part.new result }
 {
     if !r.writable {
-        return fail(0x01);
+        return Err(ParameterError::ReadOnly);
     }
     let k = r.kind;
     if !is_format(k, h.format) {
-        return fail(0x05);
+        return Err(ParameterError::WrongType);
     }
     if (h.count as u16) != n {
-        return fail(0x18);
+        return Err(ParameterError::WrongCount);
     }
     let v = Values {
         at: at + 2,
@@ -171,24 +146,27 @@ fn change_elements(
 }
 
 // One address, with its block of values.
-fn change_one(part: &mut [u8], a: Address, block: &[u8], at: usize, h: Head) -> Done
+fn change_one(
+    part: &mut [u8],
+    a: Address,
+    block: &[u8],
+    at: usize,
+    h: Head,
+) -> Result<u16, ParameterError>
     requires { block_at block.now at ≡ Some h }
     ensures { Did (change_one a (block_in block.now at) part.old) part.new result }
 {
-    let c = super::address::check_change(a);
-    match c {
-        Checked::Error(e) => fail(e),
-        Checked::Elements(r, n) => change_elements(part, a, r, n, block, at, h),
-    }
+    let (r, n) = address::check(a)?;
+    change_elements(part, a, r, n, block, at, h)
 }
 
 // `40 00`, or the error.
-fn put_answer(out: &mut [u8], at: usize, d: Done) -> Written
+fn put_answer(out: &mut [u8], at: usize, d: Result<u16, ParameterError>) -> Written
     requires { (at ≤ block_limit) × (at + 2 ≤ length out.old) }
     ensures { Wrote out.old out.new at (answer_in d) result }
 {
-    if d.failed {
-        return reply::put_failed(out, at, d.error);
+    if let Err(error) = d {
+        return reply::put_failed(out, at, error);
     }
     out[at] = 0x40;
     out[at + 1] = 0;
@@ -206,7 +184,7 @@ fn head_here(block: &[u8], at: usize) -> Head
     let f = block[at];
     let n = block[at + 1];
     let size = blocks::format_size(f);
-    let bare = codes::wide(n) * size;
+    let bare = (n as usize) * size;
     Head {
         format: f,
         count: n,
@@ -220,27 +198,23 @@ pub(crate) fn change_all(part: &mut [u8], block: &[u8], n: usize, out: &mut [u8]
     requires { (length (walk n block.now 4) ≡ n) × (length (blocks_in n block.now (4 + n * 6)) ≡ n) × (n ≤ 39) × (length out.old ≡ block_limit) }
     ensures { DidAll (change_all (walk n block.now 4) (blocks_in n block.now (4 + n * 6)) part.old) part.new out.old out.new result }
 {
-    let mut at = blocks::reader::FIRST;
-    let end = at + n * 6;
-    let mut from = end;
+    let mut at = FIRST;
+    let mut from = at + n * SIZE;
     let mut all = Changes {
-        next: blocks::reader::FIRST,
+        next: FIRST,
         error: false,
         stored: 0,
     };
-    while at < end {
-        let Some((a, next)) = blocks::reader::address_at(block, at) else {
-            return all;
-        };
+    for _ in 0..n {
         let h = head_here(block, from);
-        let d = change_one(part, a, block, from, h);
+        let d = change_one(part, address_of(block, at), block, from, h);
         let w = put_answer(out, all.next, d);
         all = Changes {
             next: w.next,
-            error: if w.error { true } else { all.error }, // asked in this order (decision 97)
-            stored: all.stored + d.stored,
+            error: w.error || all.error, // asked in this order (decision 97)
+            stored: all.stored + d.unwrap_or(0),
         };
-        at = next;
+        at += SIZE;
         from = h.next;
     }
     all
@@ -248,30 +222,24 @@ pub(crate) fn change_all(part: &mut [u8], block: &[u8], n: usize, out: &mut [u8]
 
 // The answer to a readable change, whose header is `h`: 02 alone, or 82 and its blocks where an address failed. What was stored is kept as
 // a version; where no number is left for it the change is worked on no bytes, which tells what it would store, and is refused by that.
-pub(crate) fn answer(part: &mut [u8], block: &[u8], h: Header) -> Report
+pub(crate) fn answer(part: &mut [u8], block: &[u8], h: Header) -> Result<u16, Refused>
     requires { (readable block_limit request block.now ≡ true) × (h ≡ header_of block.now) × (h.identifier ≡ 1 → ⊥) }
     ensures { Reported (change_outcome (request_in block.now) part.old) part.new result }
 {
     let mut body = [0u8; blocks::BLOCK_LIMIT];
     let used_up = part::is_used_up(part);
     let open = if used_up { 0 } else { part.len() };
-    let d = change_all(&mut part[..open], block, codes::wide(h.count), &mut body);
+    let d = change_all(&mut part[..open], block, h.count as usize, &mut body);
     if d.stored != 0 {
         if used_up {
-            return Report {
-                number: 15,
-                stored: 0,
-            };
+            return Err(Refused::UsedUp);
         }
         versions::take_within(part, part::VERSIONS);
     }
     if d.error {
         reply::respond(part, h, 0x82, body, d.next);
     } else {
-        reply::respond(part, h, 0x02, body, blocks::reader::FIRST);
+        reply::respond(part, h, 0x02, body, FIRST);
     }
-    Report {
-        number: 0,
-        stored: d.stored,
-    }
+    Ok(d.stored)
 }

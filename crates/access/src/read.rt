@@ -13,9 +13,9 @@ ghost use Rattle.access.specs.Work.{worked_read};
 ghost use Rattle.access.specs.Walk.{Wrote, WroteAll, request_in, responded_part};
 
 use super::reply::Written;
-use super::{Checked, copies, reply};
+use super::{ParameterError, address, copies, reply};
 use blocks::Header;
-use blocks::reader::Address;
+use blocks::reader::{Address, FIRST, SIZE, address_of};
 use catalogue::Row;
 
 // No parameter has more elements than the fault buffer.
@@ -26,10 +26,8 @@ fn gather(part: &[u8], r: Row, i: u16, n: u16, values: &mut [u32; MOST])
     requires { (i + n ≤ buffer_codes) × (length values.old ≡ buffer_codes) }
     ensures { (length values.new ≡ buffer_codes) × (take n values.new ≡ elements_from r i n part.now) }
 {
-    let mut j: u16 = 0;
-    while j < n {
+    for j in 0..n {
         values[j as usize] = catalogue::element(part, r, i + j);
-        j += 1;
     }
 }
 
@@ -75,7 +73,7 @@ fn put_elements(
     let bytes = (n as usize) * each;
     let size = 2 + bytes + bytes % 2;
     if blocks::BLOCK_LIMIT < at + size + 4 * after {
-        return reply::put_failed(out, at, 0x15);
+        return reply::put_failed(out, at, ParameterError::NoRoom);
     }
     let from = (r.offset as usize) + (i as usize) * each;
     if part.len() < from + bytes {
@@ -94,10 +92,9 @@ fn read_one(part: &[u8], a: Address, out: &mut [u8], at: usize, after: usize) ->
     requires { (at ≤ block_limit) × (after ≤ block_limit) × (length out.old ≡ block_limit) }
     ensures { Wrote out.old out.new at (read_block part.now at after a) result }
 {
-    let c = super::address::check_read(a);
-    match c {
-        Checked::Error(e) => reply::put_failed(out, at, e),
-        Checked::Elements(r, n) => put_elements(part, r, a.subindex, n, out, at, after),
+    match address::check(a) {
+        Err(e) => reply::put_failed(out, at, e),
+        Ok((r, n)) => put_elements(part, r, a.subindex, n, out, at, after),
     }
 }
 
@@ -106,19 +103,14 @@ pub(crate) fn read_all(part: &[u8], block: &[u8], n: usize, out: &mut [u8]) -> W
     requires { (length (walk n block.now 4) ≡ n) × (n ≤ 39) × (length out.old ≡ block_limit) }
     ensures { WroteAll out.old out.new 4 (read_blocks part.now 4 (walk n block.now 4)) result }
 {
-    let mut at = blocks::reader::FIRST;
-    let mut used = blocks::reader::FIRST;
+    let mut at = FIRST;
+    let mut used = FIRST;
     let mut error = false;
-    let mut left = n;
-    while 0 < left {
-        let Some((a, next)) = blocks::reader::address_at(block, at) else {
-            return Written { next: used, error };
-        };
-        left -= 1;
-        let w = read_one(part, a, out, used, left);
-        at = next;
+    for after in (0..n).rev() {
+        let w = read_one(part, address_of(block, at), out, used, after);
+        at += SIZE;
         used = w.next;
-        error = codes::either(error, w.error);
+        error |= w.error;
     }
     Written { next: used, error }
 }
@@ -129,10 +121,7 @@ pub(crate) fn answer(part: &mut [u8], block: &[u8], h: Header)
     ensures { part.new ≡ responded_part (worked_read (request_in block.now) part.old) }
 {
     let mut body = [0u8; blocks::BLOCK_LIMIT];
-    let w = read_all(part, block, codes::wide(h.count), &mut body);
-    if w.error {
-        reply::respond(part, h, 0x81, body, w.next);
-    } else {
-        reply::respond(part, h, 0x01, body, w.next);
-    }
+    let w = read_all(part, block, h.count as usize, &mut body);
+    let identifier = if w.error { 0x81 } else { 0x01 };
+    reply::respond(part, h, identifier, body, w.next);
 }

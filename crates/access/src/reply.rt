@@ -6,6 +6,7 @@ ghost use Rattle.part.specs.Layout.{with_response};
 ghost use Rattle.access.specs.Address.{error_block};
 ghost use Rattle.access.specs.Walk.{Wrote};
 
+use super::ParameterError;
 use blocks::Header;
 
 // Where the next block goes, and whether an error was written.
@@ -16,11 +17,11 @@ pub struct Written {
 }
 
 // An error block: `44 01` and the error word.
-pub(crate) fn put_failed(out: &mut [u8], at: usize, error: u16) -> Written
+pub(crate) fn put_failed(out: &mut [u8], at: usize, error: ParameterError) -> Written
     requires { at ≤ block_limit }
     ensures { Wrote out.old out.new at (error_block error) result }
 {
-    blocks::writer::put_error(out, at, error);
+    blocks::writer::put_error(out, at, u16::from(error));
     Written {
         next: at + 4,
         error: true,
@@ -32,13 +33,13 @@ pub(crate) fn respond(part: &mut [u8], h: Header, id: u8, body: [u8; blocks::BLO
     requires { (4 ≤ n) × (n ≤ block_limit) }
     ensures { part.new ≡ with_response (header_bytes (record { reference = h.reference; identifier = id; axis = h.axis; count = h.count }) ++ take (n - 4) (drop 4 body)) part.old }
 {
-    let header = Header {
-        reference: h.reference,
-        identifier: id,
-        axis: h.axis,
-        count: h.count,
-    };
     let mut out = body;
-    blocks::writer::put_header(&mut out, header);
-    part::put_response(part, out, n as u8);
+    blocks::writer::put_header(
+        &mut out,
+        Header {
+            identifier: id,
+            ..h
+        },
+    );
+    part::put_response(part, &out[..n]);
 }

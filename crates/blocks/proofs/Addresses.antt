@@ -55,15 +55,20 @@ pub address_end : (s : List ℕ) (at : ℕ) → addresses_end s < at + 6 → ste
 unfolding step_at
 address_end s at h = rw (lt-leb _ _ h)
 
+-- where fewer than six bytes are left, none is read
+pub address_unread : (s : List ℕ) → Bytes s → (at : ℕ) → length s < at + 6 → address.read (drop at s) ≡ bad
+unfolding address
+address_unread s b at h = go (dec_le at (length s))
+  where
+    go : Dec (at ≤ length s) → address.read (drop at s) ≡ bad
+    go (yes y) = fixed_address.short s b at y h
+    go (no n) = rw (drop_of_length-le s {i = at} (omega arith))
+
 -- where fewer than six bytes are left, no address stands
 pub address_short : (s : List ℕ) → Bytes s → (at : ℕ) → length s < at + 6 → step_at s at ≡ None
-unfolding step_at address
-address_short s b at h = rw (unread (dec_le at (length s))) (either (leb (at + 6) (addresses_end s)))
+unfolding step_at
+address_short s b at h = rw (address_unread s b at h) (either (leb (at + 6) (addresses_end s)))
   where
-    unread : Dec (at ≤ length s) → address.read (drop at s) ≡ bad
-    unread (yes y) = fixed_address.short s b at y h
-    unread (no n) = rw (drop_of_length-le s {i = at} (omega arith))
-
     either : (t : Bool) → let none : Option (Address × ℕ) = None in cond t none none ≡ none
     either true = refl
     either false = refl

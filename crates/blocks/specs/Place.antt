@@ -2,7 +2,7 @@
 use Rattle.blocks.specs.declared.Head.{Head}
 use Rattle.std.specs.Prelude.{List, [], ◌∷◌, cond, ℕ, zero, suc, ◌+◌, ◌-◌, ◌*◌, length, get_or, drop, leb, Option, Some, None}
 use Rattle.codes.specs.Code.{Got, got, bad}
-use Rattle.codes.specs.Number.{number_at, put}
+use Rattle.codes.specs.Number.{value_or, number_at, put}
 use Rattle.blocks.specs.declared.Header.{Header}
 use Rattle.blocks.specs.declared.reader.Address.{Address}
 use Rattle.blocks.specs.Block.{Block, value_size, change_block_fits, block}
@@ -42,6 +42,13 @@ value_at s at j = value_in j ((block change_block_fits).read (drop at s))
 -- where the addresses of a block end: after its header and N times 6 bytes
 abbrev pub addresses_end : List ℕ → ℕ
 addresses_end s = 4 + (header_of s).count * 6
+
+-- the address whose six bytes stand at a place; zeros where they do not
+abbrev pub no_address : Address
+no_address = record { attribute = 0; elements = 0; pnu = 0; subindex = 0 }
+
+abbrev pub address_in : List ℕ → ℕ → Address
+address_in s at = value_or no_address (address.read (drop at s))
 
 -- the address at a place and the place after it, or the end of the addresses
 abbrev pub step_of : ℕ → Got Address → Option (Address × ℕ)

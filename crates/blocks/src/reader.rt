@@ -2,11 +2,14 @@
 ghost use Rattle.std.specs.Prelude.{◌≡◌, ◌+◌, ◌≤◌, length, drop};
 ghost use Rattle.codes.specs.Code.{got};
 ghost use Rattle.blocks.specs.Request.{address};
-ghost use Rattle.blocks.specs.Place.{step_at, addresses_from};
+ghost use Rattle.blocks.specs.Place.{address_in, step_at, addresses_from};
 ghost use Rattle.std.specs.Iterator.{YieldsFirst, item_count};
 
 // Where the first address stands.
 pub const FIRST: usize = 4;
+
+// Bytes of an address.
+pub const SIZE: usize = 6;
 
 #[derive(Clone, Copy)]
 pub struct Address {
@@ -32,6 +35,21 @@ fn address_here(s: &[u8], at: usize) -> Address
         pnu: codes::word_at(s, at + 2),
         subindex: codes::word_at(s, at + 4),
     }
+}
+
+// The address whose six bytes stand at a place, for who knows that it is one of the block's; zeros where they do not stand there.
+pub fn address_of(block: &[u8], at: usize) -> Address
+    ensures { result ≡ address_in block.now at }
+{
+    if !codes::stands(block.len(), at, SIZE) {
+        return Address {
+            attribute: 0,
+            elements: 0,
+            pnu: 0,
+            subindex: 0,
+        };
+    }
+    address_here(block, at)
 }
 
 // The address that stands at a place of a block, and the place after it: what crates above walk with.

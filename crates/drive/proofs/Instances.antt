@@ -18,44 +18,44 @@ use Rattle.drive.proofs.Laws.{fault_means_s1, entry_into_s4, stay_in_s4, s4_need
 
 -- EntryIntoS4: no entry from a state other than S3 and S51, S4 itself among them, nor one that ends elsewhere
 module _ (d : Drive) (i : Input) (entered : (cycle_of d i).output.entered ≡ true) where
-  no_entry : (d.state ≡ S3 → ⊥) → (d.state ≡ S51 → ⊥) → ⊥
+  no_entry : (d.motion.state ≡ S3 → ⊥) → (d.motion.state ≡ S51 → ⊥) → ⊥
   no_entry not-s3 not-s51 = go (entry_into_s4 d i entered).1
     where
-      go : (d.state ≡ S3) ⊎ (d.state ≡ S51) → ⊥
+      go : (d.motion.state ≡ S3) ⊎ (d.motion.state ≡ S51) → ⊥
       go (inl f) = not-s3 f
       go (inr f) = not-s51 f
 
-  entry_ends : (cycle_of d i).drive.state ≡ S4
+  entry_ends : (cycle_of d i).drive.motion.state ≡ S4
   entry_ends = (entry_into_s4 d i entered).0
 
 -- StayInS4: from S3 to S4 is an entry
-switched_on : (d : Drive) (i : Input) → d.state ≡ S3 → (cycle_of d i).drive.state ≡ S4 → (cycle_of d i).output.entered ≡ false → ⊥
+switched_on : (d : Drive) (i : Input) → d.motion.state ≡ S3 → (cycle_of d i).drive.motion.state ≡ S4 → (cycle_of d i).output.entered ≡ false → ⊥
 switched_on d i before ends not_entered = true≢false (sym (ap is_s4 (stay_in_s4 d i not_entered ends)) ∙ ap is_s4 before)
 
 -- S4NeedsB1: 047D has b1 = 0
-stopped : (d : Drive) (i : Input) → i.stw1 ≡ 0x047D → (cycle_of d i).drive.state ≡ S4 → ⊥
+stopped : (d : Drive) (i : Input) → i.stw1 ≡ 0x047D → (cycle_of d i).drive.motion.state ≡ S4 → ⊥
 unfolding word_used word_of
-stopped d i word e = true≢false (sym (s4_needs_b1 d i e) ∙ ap (λ w. bit 1 (word_used w d.word)) word)
+stopped d i word e = true≢false (sym (s4_needs_b1 d i e) ∙ ap (λ w. bit 1 (word_used w d.motion.word)) word)
 
 -- FaultMeansS1: a fault code comes in operation
 running : Drive
-running = record { state = S4; word = 0x047F; setpoint = still; effective = still; status = 0x0237; actual = still; faults = no_faults }
+running = record { motion = record { state = S4; word = 0x047F; setpoint = still; effective = still; status = 0x0237; actual = still }; faults = no_faults }
 
 failing : Input
 failing = record { standstill = false; warning = false; stw1 = 0x047F; nsoll = still; nist = still; fault = 5; reference = 1500; window = 164; threshold = 16384 }
 
-inhibited : (cycle_of running failing).drive.state ≡ S1
+inhibited : (cycle_of running failing).drive.motion.state ≡ S1
 unfolding running failing cycle_of word_of word_used acknowledges after_ack after_code
 inhibited = fault_means_s1 running failing refl
 
 -- and one that came before stands in the buffer
 faulty : Drive
-faulty = record { state = S4; word = 0x047F; setpoint = still; effective = still; status = 0x0237; actual = still; faults = put_of no_faults 0 5 }
+faulty = record { motion = record { state = S4; word = 0x047F; setpoint = still; effective = still; status = 0x0237; actual = still }; faults = put_of no_faults 0 5 }
 
 going : Input
 going = record { standstill = false; warning = false; stw1 = 0x047F; nsoll = still; nist = still; fault = 0; reference = 1500; window = 164; threshold = 16384 }
 
-still_inhibited : (cycle_of faulty going).drive.state ≡ S1
+still_inhibited : (cycle_of faulty going).drive.motion.state ≡ S1
 unfolding faulty going cycle_of word_of word_used acknowledges after_ack after_code
 still_inhibited = fault_means_s1 faulty going refl
 
@@ -63,10 +63,10 @@ still_inhibited = fault_means_s1 faulty going refl
 nothing_there : (d : Drive) (i : Input) → (cycle_of d i).output.acknowledged ≡ true → is_empty_of d.faults ≡ true → ⊥
 nothing_there d i e empty = true≢false (sym empty ∙ (acknowledged d i e).some)
 
-held : (d : Drive) (i : Input) → (cycle_of d i).output.acknowledged ≡ true → bit 7 d.word ≡ true → ⊥
+held : (d : Drive) (i : Input) → (cycle_of d i).output.acknowledged ≡ true → bit 7 d.motion.word ≡ true → ⊥
 held d i e bit-7 = true≢false (sym bit-7 ∙ (acknowledged d i e).before)
 
-not_set : (d : Drive) (i : Input) → (cycle_of d i).output.acknowledged ≡ true → bit 7 (word_used i.stw1 d.word) ≡ false → ⊥
+not_set : (d : Drive) (i : Input) → (cycle_of d i).output.acknowledged ≡ true → bit 7 (word_used i.stw1 d.motion.word) ≡ false → ⊥
 not_set d i e bit-7 = true≢false (sym (acknowledged d i e).now ∙ bit-7)
 
 -- MustAcknowledge: 04FE after 047F, at a fault
@@ -90,13 +90,13 @@ four : length worked_cycles ≡ 4
 four = refl
 
 -- CycleMoves: of a cycle that acknowledges, or that a code comes with, steps 2 and 3 tell the faults
-moves_faults : (d : Drive) (i : Input) → (cycle_of d i).drive.faults ≡ after_code i.fault (after_ack (acknowledges (word_of (word_used i.stw1 d.word)) (word_of d.word) i.fault d.faults) d.faults)
+moves_faults : (d : Drive) (i : Input) → (cycle_of d i).drive.faults ≡ after_code i.fault (after_ack (acknowledges (word_of (word_used i.stw1 d.motion.word)) (word_of d.motion.word) i.fault d.faults) d.faults)
 moves_faults d i = ap (λ (x : CycleEnd). x.drive.faults) (cycle_moves d i)
 
-moves_state : (cycle_of running failing).drive.state ≡ (moved_of (motion_of running) true false failing).motion.state
+moves_state : (cycle_of running failing).drive.motion.state ≡ (moved_of (motion_of running) true false failing).motion.state
 unfolding running failing word_of word_used acknowledges after_ack after_code
-moves_state = ap (λ (x : CycleEnd). x.drive.state) (cycle_moves running failing)
+moves_state = ap (λ (x : CycleEnd). x.drive.motion.state) (cycle_moves running failing)
 
 -- QuietExactly: where no code comes and nothing is acknowledged, a cycle is quiet
-quiet_there : (d : Drive) (i : Input) → i.fault ≡ 0 → acknowledges (word_of (word_used i.stw1 d.word)) (word_of d.word) i.fault d.faults ≡ false → quiet_of d.word (is_empty_of d.faults) i ≡ true
+quiet_there : (d : Drive) (i : Input) → i.fault ≡ 0 → acknowledges (word_of (word_used i.stw1 d.motion.word)) (word_of d.motion.word) i.fault d.faults ≡ false → quiet_of d.motion.word (is_empty_of d.faults) i ≡ true
 quiet_there d i n a = quiet_exactly d i ∙ rw (a, eq-eqb i.fault 0 n)

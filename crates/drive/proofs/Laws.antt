@@ -45,7 +45,7 @@ enters S51 b t e = record { from = λ no. inr refl; bit_1 = not-false b.b1 (pass
 enters S52 b t e = absurd (neither (not b.b1 || (t || not b.b3)) S1 S52 e refl refl)
 
 -- a cycle that ends in S4
-ends_in_s4 : (d : Drive) (i : Input) → (cycle_of d i).drive.state ≡ S4 → Enters d.state (word_of (word_used i.stw1 d.word))
+ends_in_s4 : (d : Drive) (i : Input) → (cycle_of d i).drive.motion.state ≡ S4 → Enters d.motion.state (word_of (word_used i.stw1 d.motion.word))
 unfolding cycle_of state_after
 ends_in_s4 d i e = enters _ _ i.standstill (passed (not (is_empty_of (cycle_of d i).drive.faults)) _ e).1
 
@@ -61,15 +61,15 @@ s4_is S52 e = absurd (false≢true e)
 pub entry_into_s4 : EntryIntoS4
 unfolding cycle_of enters_s4
 entry_into_s4 d i e =
-    let both = (and-eq-true_iff (not (is_s4 d.state)) (is_s4 (cycle_of d i).drive.state)).0 e in
-    let ends = s4_is (cycle_of d i).drive.state both.1 in
-    let other : d.state ≡ S4 → ⊥ = λ same. true≢false (sym (ap is_s4 same) ∙ not-true (is_s4 d.state) both.0) in
+    let both = (and-eq-true_iff (not (is_s4 d.motion.state)) (is_s4 (cycle_of d i).drive.motion.state)).0 e in
+    let ends = s4_is (cycle_of d i).drive.motion.state both.1 in
+    let other : d.motion.state ≡ S4 → ⊥ = λ same. true≢false (sym (ap is_s4 same) ∙ not-true (is_s4 d.motion.state) both.0) in
     (ends, (ends_in_s4 d i ends).from other)
 
 pub stay_in_s4 : StayInS4
 unfolding cycle_of enters_s4
 stay_in_s4 d i e ends =
-    cases (is_s4 d.state) (s4_is d.state)
+    cases (is_s4 d.motion.state) (s4_is d.motion.state)
     (λ other. absurd (true≢false (sym (rw (other, ends)) ∙ e)))
 
 pub s4_needs_b1 : S4NeedsB1
@@ -79,8 +79,8 @@ s4_needs_b1 d i e = (ends_in_s4 d i e).bit_1
 pub acknowledged : Acknowledged
 unfolding cycle_of acknowledges after_ack after_code word_of
 acknowledged d i e =
-    let w = word_of (word_used i.stw1 d.word) in
-    let last = word_of d.word in
+    let w = word_of (word_used i.stw1 d.motion.word) in
+    let last = word_of d.motion.word in
     let some = is_empty_of d.faults in
     let code = eqb i.fault 0 in
     let now = (and-eq-true_iff w.b7 (not last.b7 && (code && not some))).0 e in

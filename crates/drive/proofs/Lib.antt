@@ -1,5 +1,6 @@
 pub mod Signed
 pub mod Find
+pub mod Number
 pub mod Proper
 pub mod Quiet
 pub mod Laws

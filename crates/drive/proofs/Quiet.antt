@@ -19,7 +19,7 @@ pub quiet_exactly : QuietExactly
 unfolding quiet_of acknowledges word_of
 quiet_exactly d i = cases (eqb i.fault 0) (λ e. rw e) (λ e. rw e)
 
-module _ (d : Drive) (i : Input) (quiet : quiet_of d.word (is_empty_of d.faults) i ≡ true) where
+module _ (d : Drive) (i : Input) (quiet : quiet_of d.motion.word (is_empty_of d.faults) i ≡ true) where
   no_code : eqb i.fault 0 ≡ true
   no_code = ((and-eq-true_iff (eqb i.fault 0) _).0 (sym (quiet_exactly d i) ∙ quiet)).0
 

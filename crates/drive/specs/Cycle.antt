@@ -174,31 +174,31 @@ enters_s4 before s = not (is_s4 before) && is_s4 s
 unfoldable pub cycle_of : Drive → Input → CycleEnd
 cycle_of d i =
     -- 1
-    let w = word_used i.stw1 d.word in
-    let setpoint = setpoint_used i.stw1 i.nsoll d.setpoint in
+    let w = word_used i.stw1 d.motion.word in
+    let setpoint = setpoint_used i.stw1 i.nsoll d.motion.setpoint in
     let b = word_of w in
     -- 2
-    let acknowledged = acknowledges b (word_of d.word) i.fault d.faults in
+    let acknowledged = acknowledges b (word_of d.motion.word) i.fault d.faults in
     let left = after_ack acknowledged d.faults in
     -- 3
     let f = after_code i.fault left in
     -- 4
     let faulted = not (is_empty_of f) in
-    let s = state_after faulted d.state b i.standstill in
+    let s = state_after faulted d.motion.state b i.standstill in
     -- 5
-    let e = effective_of s b d.effective setpoint in
+    let e = effective_of s b d.motion.effective setpoint in
     -- 6
     let z = status_of s faulted b i.warning (near_of e i.nist i.window) (fast_of i.nist i.threshold) in
     -- 7
     record {
-      drive = record { state = s; word = w; setpoint = setpoint; effective = e; status = z; actual = i.nist; faults = f };
+      drive = record { motion = record { state = s; word = w; setpoint = setpoint; effective = e; status = z; actual = i.nist }; faults = f };
       output =
           record {
             state = s;
             status = z;
             speed = scale_of e i.reference;
             acknowledged = acknowledged;
-            entered = enters_s4 d.state s;
+            entered = enters_s4 d.motion.state s;
           };
     }
 
@@ -206,11 +206,13 @@ cycle_of d i =
 abbrev pub fresh_drive : Drive
 fresh_drive =
     record {
-      state = S1;
-      word = 0;
-      setpoint = still;
-      effective = still;
-      status = 0x0340;
-      actual = still;
+      motion = record {
+        state = S1;
+        word = 0;
+        setpoint = still;
+        effective = still;
+        status = 0x0340;
+        actual = still;
+      };
       faults = no_faults;
     }

@@ -22,26 +22,26 @@ KeepsProper = (d : Drive) (i : Input) → proper_faults d.faults ≡ true → pr
 
 -- situation 0 not empty means that the state after the cycle is S1
 abbrev pub FaultMeansS1 : Type 0
-FaultMeansS1 = (d : Drive) (i : Input) → not (is_empty_of (cycle_of d i).drive.faults) ≡ true → (cycle_of d i).drive.state ≡ S1
+FaultMeansS1 = (d : Drive) (i : Input) → not (is_empty_of (cycle_of d i).drive.faults) ≡ true → (cycle_of d i).drive.motion.state ≡ S1
 
 -- an entry into S4 ends there and comes from S3 or S51; a cycle that ends in S4 without one began there
 abbrev pub EntryIntoS4 : Type 0
 EntryIntoS4 =
     (d : Drive) (i : Input) → (cycle_of d i).output.entered ≡ true
-    → ((cycle_of d i).drive.state ≡ S4) × ((d.state ≡ S3) ⊎ (d.state ≡ S51))
+    → ((cycle_of d i).drive.motion.state ≡ S4) × ((d.motion.state ≡ S3) ⊎ (d.motion.state ≡ S51))
 
 abbrev pub StayInS4 : Type 0
-StayInS4 = (d : Drive) (i : Input) → (cycle_of d i).output.entered ≡ false → (cycle_of d i).drive.state ≡ S4 → d.state ≡ S4
+StayInS4 = (d : Drive) (i : Input) → (cycle_of d i).output.entered ≡ false → (cycle_of d i).drive.motion.state ≡ S4 → d.motion.state ≡ S4
 
 -- no cycle ends in S4 whose used word has b1 = 0
 abbrev pub S4NeedsB1 : Type 0
-S4NeedsB1 = (d : Drive) (i : Input) → (cycle_of d i).drive.state ≡ S4 → bit 1 (word_used i.stw1 d.word) ≡ true
+S4NeedsB1 = (d : Drive) (i : Input) → (cycle_of d i).drive.motion.state ≡ S4 → bit 1 (word_used i.stw1 d.motion.word) ≡ true
 
 -- where a cycle acknowledged, situation 0 was not empty, bit 7 rose, and the fault buffer is moved down, with no new code in it
 pub record Acknowledges (d : Drive) (i : Input) : Type 0 where
   pub some : is_empty_of d.faults ≡ false
-  pub now : bit 7 (word_used i.stw1 d.word) ≡ true
-  pub before : bit 7 d.word ≡ false
+  pub now : bit 7 (word_used i.stw1 d.motion.word) ≡ true
+  pub before : bit 7 d.motion.word ≡ false
   pub moved : (cycle_of d i).drive.faults ≡ acknowledged_of d.faults
 
 abbrev pub Acknowledged : Type 0
@@ -50,7 +50,7 @@ Acknowledged = (d : Drive) (i : Input) → (cycle_of d i).output.acknowledged �
 -- and it has to, where bit 7 rises beside no code
 abbrev pub MustAcknowledge : Type 0
 MustAcknowledge =
-    (d : Drive) (i : Input) → bit 7 (word_used i.stw1 d.word) ≡ true → bit 7 d.word ≡ false → i.fault ≡ 0
+    (d : Drive) (i : Input) → bit 7 (word_used i.stw1 d.motion.word) ≡ true → bit 7 d.motion.word ≡ false → i.fault ≡ 0
     → is_empty_of d.faults ≡ false → (cycle_of d i).output.acknowledged ≡ true
 
 -- where it did not, step 3 alone has changed the buffer
@@ -59,7 +59,7 @@ NotAcknowledged = (d : Drive) (i : Input) → (cycle_of d i).output.acknowledged
 
 -- what steps 2 and 3 of a cycle come to: whether it acknowledges, and the faults
 abbrev pub acknowledges_in : Drive → Input → Bool
-acknowledges_in d i = acknowledges (word_of (word_used i.stw1 d.word)) (word_of d.word) i.fault d.faults
+acknowledges_in d i = acknowledges (word_of (word_used i.stw1 d.motion.word)) (word_of d.motion.word) i.fault d.faults
 
 abbrev pub faults_after : Drive → Input → Faults
 faults_after d i = after_code i.fault (after_ack (acknowledges_in d i) d.faults)
@@ -73,11 +73,11 @@ CycleMoves =
 
 -- a cycle is quiet exactly when no code is sent and nothing is acknowledged
 abbrev pub QuietExactly : Type 0
-QuietExactly = (d : Drive) (i : Input) → quiet_of d.word (is_empty_of d.faults) i ≡ (eqb i.fault 0 && not (acknowledges_in d i))
+QuietExactly = (d : Drive) (i : Input) → quiet_of d.motion.word (is_empty_of d.faults) i ≡ (eqb i.fault 0 && not (acknowledges_in d i))
 
 -- a quiet cycle leaves the faults as they are, and goes through the other steps
 abbrev pub QuietKeepsFaults : Type 0
 QuietKeepsFaults =
-    (d : Drive) (i : Input) → quiet_of d.word (is_empty_of d.faults) i ≡ true
+    (d : Drive) (i : Input) → quiet_of d.motion.word (is_empty_of d.faults) i ≡ true
     → let end = moved_of (motion_of d) (not (is_empty_of d.faults)) false i in
     Path CycleEnd (cycle_of d i) (record { drive = with_faults end.motion d.faults; output = end.output })

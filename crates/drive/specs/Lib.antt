@@ -1,5 +1,6 @@
 pub mod Speed
 pub mod Faults
+pub mod States
 pub mod Cycle
 pub mod Motion
 pub mod Laws

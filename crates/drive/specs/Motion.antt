@@ -11,28 +11,11 @@ use Rattle.drive.specs.Cycle.{bit, word_of, word_used, setpoint_used, state_afte
 
 -- a drive record but for its faults
 abbrev pub motion_of : Drive → Motion
-motion_of d =
-    record {
-      state = d.state;
-      word = d.word;
-      setpoint = d.setpoint;
-      effective = d.effective;
-      status = d.status;
-      actual = d.actual;
-    }
+motion_of d = d.motion
 
 -- the whole of it, with faults
 abbrev pub with_faults : Motion → Faults → Drive
-with_faults m f =
-    record {
-      state = m.state;
-      word = m.word;
-      setpoint = m.setpoint;
-      effective = m.effective;
-      status = m.status;
-      actual = m.actual;
-      faults = f;
-    }
+with_faults m f = record { motion = m; faults = f }
 
 -- Steps 1 and 4 to 7. Of steps 2 and 3 they are told whether situation 0 is not empty after them, and whether step 2 acknowledged.
 unfoldable pub moved_of : Motion → Bool → Bool → Input → MotionEnd

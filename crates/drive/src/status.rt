@@ -2,7 +2,6 @@
 ghost use Rattle.std.specs.Prelude.{◌≡◌, ◌≤◌};
 ghost use Rattle.drive.specs.Cycle.{state_bits, near_of, fast_of, flag_of, status_of};
 
-use super::speed;
 use super::speed::N2;
 use super::states::State;
 use super::word::Word;
@@ -23,17 +22,19 @@ fn state_bits(s: State) -> u16
 }
 
 // Bit 8: the distance is at most PNU 30002.
+#[tactic(auto, unfolding(crate::specs::Cycle::near_of))]
 pub(crate) fn is_near(e: N2, nist: N2, window: u16) -> bool
     ensures { result ≡ near_of e nist window }
 {
-    speed::distance(e, nist) <= window as u32
+    e.0.abs_diff(nist.0) <= window
 }
 
 // Bit 10: the size is at least PNU 30003.
+#[tactic(auto, unfolding(crate::specs::Cycle::fast_of))]
 pub(crate) fn is_fast(nist: N2, threshold: u16) -> bool
     ensures { result ≡ fast_of nist threshold }
 {
-    threshold as u32 <= speed::magnitude(nist)
+    threshold <= nist.0.unsigned_abs()
 }
 
 fn flag(on: bool, value: u16) -> u16
@@ -43,6 +44,7 @@ fn flag(on: bool, value: u16) -> u16
     if on { value } else { 0 }
 }
 
+#[tactic(auto, unfolding(crate::specs::Cycle::status_of))]
 pub(crate) fn status_word(
     s: State,
     faulted: bool,

@@ -1,6 +1,6 @@
 // The control word STW1, as the bits that the cycle looks at.
-ghost use Rattle.std.specs.Prelude.{◌≡◌};
-ghost use Rattle.drive.specs.Cycle.{word_of};
+ghost use Rattle.std.specs.Prelude.{◌≡◌, ◌<◌};
+ghost use Rattle.drive.specs.Cycle.{bit, word_of};
 
 #[derive(Clone, Copy)]
 pub(crate) struct Word {
@@ -15,18 +15,25 @@ pub(crate) struct Word {
     pub(crate) b10: bool,
 }
 
-pub(crate) fn decode(w: u16) -> Word
-    ensures { result ≡ word_of w }
-{
-    Word {
-        b0: w / 1 % 2 == 1,
-        b1: w / 2 % 2 == 1,
-        b2: w / 4 % 2 == 1,
-        b3: w / 8 % 2 == 1,
-        b4: w / 16 % 2 == 1,
-        b5: w / 32 % 2 == 1,
-        b6: w / 64 % 2 == 1,
-        b7: w / 128 % 2 == 1,
-        b10: w / 1024 % 2 == 1,
+impl From<u16> for Word {
+    ghost from_gives = { λ w b. b ≡ word_of w };
+
+    #[tactic(auto, unfolding(crate::specs::Cycle::word_of))]
+    fn from(w: u16) -> Word {
+        let bit = |k: u32| -> bool
+            requires { k < 16 }
+            ensures { result ≡ bit k w }
+        { w >> k & 1 == 1 };
+        Word {
+            b0: bit(0),
+            b1: bit(1),
+            b2: bit(2),
+            b3: bit(3),
+            b4: bit(4),
+            b5: bit(5),
+            b6: bit(6),
+            b7: bit(7),
+            b10: bit(10),
+        }
     }
 }

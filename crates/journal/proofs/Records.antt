@@ -1,39 +1,39 @@
 -- What is known of bytes by whether they are a record.
-use mathlib.Core.Path.{◌≡◌, refl, sym, ◌∙◌, ap}
-use mathlib.Core.Bool.{Bool, true, false, ◌&&◌, ◌||◌, true≢false, and-eq-true_iff}
-use mathlib.Core.List.{List, [], ◌∷◌, ◌++◌, append_assoc}
-use Prim.Native.Nat.{ℕ, zero, suc, ◌+◌, ◌≤◌, ◌<◌}
+use mathlib.Core.Path.{◌≡◌, refl, sym, subst, ◌∙◌, ap}
+use mathlib.Core.Bool.{Bool, true, false, cond, ◌&&◌, ◌||◌, true≢false, and-true, and_assoc, and-eq-true_iff}
+use mathlib.Core.List.{List, [], ◌∷◌, append_assoc}
+use Prim.Native.Nat.{ℕ, zero, suc, ◌+◌, ◌≤◌}
 use native.Mathlib.Omega.{arith}
-use native.Mathlib.Numerals.{add-one}
 use lib.Dec.{eqb, leb}
 use lib.ListN.{length, get_or, drop}
-use lib.Seq.{drop-cons, drop-append-add}
-use borrow.Author.Tests.{eqb-true, leb-true, eq-eqb, ne_eqb, lt-ltb}
-use Rattle.codes.specs.Number.{number_at, put}
+use lib.Seq.{drop-append-add}
+use borrow.Author.Tests.{eqb-true, eqb-false, leb-true, eq-eqb, ne_eqb, lt-ltb}
+use Rattle.codes.specs.Number.{number_at}
 use Rattle.drive.specs.Faults.{zeros}
 use Rattle.station.specs.Parts.{part_of, station_refusal}
-use Rattle.station.specs.Calls.{Call, frame, exchange, go_back, frame_by, Answer, to_cycle, to_frame, to_list, to_return, kind_of, owner, kinds}
-use Rattle.station.specs.Isolation.{answer, answer_by, after}
+use Rattle.station.specs.Calls.{Call, frame, exchange, go_back, frame_by, Answer, to_cycle, to_frame, to_list, to_return, kind_of as call_kind, owner, kinds}
+use Rattle.station.specs.Isolation as Isolation
+use Rattle.station.specs.Isolation.{answer, answer_by}
 use Rattle.station.proofs.Tests.{one_of}
+use borrow.Table.Steps.{cases}
 use Rattle.journal.specs.Line.{record_length, cycle_record, frame_record, return_record, cycle_call, frame_length, frame_call, return_call, holds_frame, is_merged, is_cycle, is_frame, is_return, is_record, call_of, line_of, bad_line, record_line, record_after}
-use Rattle.journal.specs.declared.Acted.{Acted}
-use Rattle.journal.specs.declared.Acted.TheVariants.{Bad}
+use Rattle.std.specs.Prelude.{Option, Some, None}
+use Rattle.std.specs.List.{fold}
+use lib.Bits.{bit_or, or_add_and, and_le_r}
+use Rattle.std.specs.Option.{is_some}
+use Rattle.journal.specs.declared.record.Kind.{Kind}
+use Rattle.journal.specs.declared.record.Kind.TheVariants.{Cycle, Frame, Return}
+use Rattle.journal.specs.Kinds.{kind_by, clear_past_frame, kind_in, kind_of}
 use Rattle.journal.specs.History.{acted_by, acted_of}
 use Rattle.journal.specs.Laws.{MergedRecords, ReturnRecords, NoneLists}
-use Rattle.journal.proofs.Pieces.{wrote_first, from_start}
 
--- bytes tested for 0, from a place on
-pub clear_past : (s : List ℕ) (i : ℕ) → length s ≤ i → zeros (drop i s) ≡ true
-clear_past [] zero h = refl
-clear_past [] (suc i) h = refl
-clear_past (x ∷ s) zero h = absurd (omega arith)
-clear_past (x ∷ s) (suc i) h = clear_past s i (omega arith)
+-- bytes joined are 0 where each is
+join_both : (a b : ℕ) → eqb (bit_or a b) 0 ≡ (eqb a 0 && eqb b 0)
+join_both a b = cases (eqb a 0) (λ e. rw (eqb-true a 0 e)) (λ n. rw n (ne_eqb (bit_or a b) 0 (λ z. eqb-false a 0 n (omega (arith, or_add_and a b, and_le_r a b)))))
 
-pub clear_next : (s : List ℕ) (i : ℕ) → i < length s → get_or s i 0 ≡ 0 → zeros (drop i s) ≡ zeros (drop (i + 1) s)
-clear_next s i h e = rw (drop-cons s i 0 h, eq-eqb (get_or s i 0) 0 e, add-one i)
-
-pub clear_not : (s : List ℕ) (i : ℕ) → i < length s → (get_or s i 0 ≡ 0 → ⊥) → zeros (drop i s) ≡ false
-clear_not s i h n = rw (drop-cons s i 0 h, ne_eqb (get_or s i 0) 0 n)
+pub joined : (a : ℕ) (s : List ℕ) → eqb (fold bit_or a s) 0 ≡ (eqb a 0 && zeros s)
+joined a [] = sym (and-true (eqb a 0))
+joined a (x ∷ s) = joined (bit_or a x) s ∙ (ap (λ (b : Bool). b && zeros s) (join_both a x) ∙ and_assoc (eqb a 0) (eqb x 0) (zeros s))
 
 -- a record of a kind that tests nothing else
 module _ (size kind : ℕ) (r : List ℕ) (h : eqb (length r) size && eqb (get_or r 0 0) kind ≡ true) where
@@ -84,46 +84,78 @@ record_whole r = go (is_cycle r) (is_return r) (is_frame r) refl refl refl
         frame_kinds (get_or r 0 0) ((and-eq-true_iff (holds_frame (get_or r 0 0)) rest).0 x.1).0 ∙ sym (frame_lengths r d).0
     go false false false a b d e = absurd (true≢false (sym e))
 
--- what a play and an act promise, by what the bytes are
-module _ (r s : List ℕ) where
-  pub record Comes (l t : List ℕ) (d : Acted) (g : Bool) : Type 0 where
-    pub line : record_line r s ≡ l
-    pub after : record_after r s ≡ t
-    pub acted : acted_of r s ≡ d
-    pub good : is_record r ≡ g
-
-  -- a record, by its call
-  comes : (c : Call) → is_record r ≡ true → call_of r ≡ c → Comes (line_of c (answer kinds c s)) (after kinds c s) (acted_by c (answer kinds c s)) true
-  unfolding record_line record_after acted_of
-  comes c good call = record { line = rw (good, call); after = rw (good, call); acted = rw (good, call); good = good }
-
-  pub comes_cycle : is_cycle r ≡ true → Comes (line_of (cycle_call r) (answer kinds (cycle_call r) s)) (after kinds (cycle_call r) s) (acted_by (cycle_call r) (answer kinds (cycle_call r) s)) true
-  unfolding is_record call_of
-  comes_cycle h = comes (cycle_call r) (rw h) (rw h)
-
-  module _ (c : is_cycle r ≡ false) where
-    pub comes_return : is_return r ≡ true → Comes (line_of (return_call r) (answer kinds (return_call r) s)) (after kinds (return_call r) s) (acted_by (return_call r) (answer kinds (return_call r) s)) true
-    unfolding is_record call_of
-    comes_return h = comes (return_call r) (rw (c, h)) (rw (c, h))
-
-    pub comes_frame : is_return r ≡ false → is_frame r ≡ true → Comes (line_of (frame_call r) (answer kinds (frame_call r) s)) (after kinds (frame_call r) s) (acted_by (frame_call r) (answer kinds (frame_call r) s)) true
-    unfolding is_record call_of
-    comes_frame g h = comes (frame_call r) (rw (c, g, h)) (rw (c, g))
-
-    pub comes_bad : is_return r ≡ false → is_frame r ≡ false → Comes bad_line s Bad false
-    unfolding record_line record_after acted_of is_record
-    comes_bad g h = record { line = rw (c, g, h); after = rw (c, g, h); acted = rw (c, g, h); good = rw (c, g, h) }
-
-  module _ {bs u : List ℕ} {d : Acted} {g : Bool} (e : Comes bs u d g) (l : List ℕ) {m t : List ℕ} {p : ℕ} where
-    pub played : m ≡ put l 0 bs → p ≡ length bs → p ≤ 513 → length l ≡ 513 → t ≡ u → (m ≡ record_line r s ++ drop p l) × (((p ≡ length (record_line r s)) × (p ≤ 513)) × ((g ≡ is_record r) × (t ≡ record_after r s)))
-    played put-there long fits room left =
-        let all : m ≡ bs ++ drop p l = from_start (wrote_first (put-there, (long, fits))) (omega arith) in
-        (rw e.line all, ((rw e.line long, fits), (sym e.good, left ∙ sym e.after)))
-
--- a record that holds a frame is of no other kind
+-- what is of one kind is of no other
 other : (b : Bool) → b && false ≡ false
 other true = refl
 other false = refl
+
+-- the kind of a record is that of the tests one after the other
+kind_tests : (r : List ℕ) → kind_of r ≡ cond (is_cycle r) (Some Cycle) (cond (is_return r) (Some Return) (cond (is_frame r) (Some (Frame (is_merged r))) None))
+unfolding kind_of
+kind_tests r = go (get_or r 0 0)
+  where
+    go : (b : ℕ) → kind_in (kind_by b) r
+        ≡ cond (eqb (length r) cycle_record && eqb b 1) (Some Cycle)
+        (cond (eqb (length r) return_record && eqb b 4) (Some Return)
+        (cond (eqb (length r) frame_record && (holds_frame b && clear_past_frame r)) (Some (Frame (eqb b 3))) None))
+    go b =
+        cases (eqb b 1) (λ e. rw (eqb-true b 1 e) (simp other))
+        (λ n1.
+        cases (eqb b 2) (λ e. rw (eqb-true b 2 e) (simp other))
+        (λ n2.
+        cases (eqb b 3) (λ e. rw (eqb-true b 3 e) (simp other))
+        (λ n3.
+        cases (eqb b 4) (λ e. rw (eqb-true b 4 e) (simp other))
+        (λ n4. rw (n1, n2, n3, n4) (simp other)))))
+
+-- what a play and an act promise of a record, by its call; and of bytes that are none
+pub record Comes (r s : List ℕ) (c : Call) : Type 0 where
+  pub line : record_line r s ≡ line_of c (answer kinds c s)
+  pub after : record_after r s ≡ Isolation.after kinds c s
+  pub acted : acted_of r s ≡ acted_by c (answer kinds c s)
+  pub good : is_record r ≡ true
+
+pub record ComesBad (r s : List ℕ) : Type 0 where
+  pub line : record_line r s ≡ bad_line
+  pub after : record_after r s ≡ s
+  pub acted : acted_of r s ≡ None
+  pub good : is_record r ≡ false
+
+module _ (r s : List ℕ) where
+  comes : (c : Call) → is_record r ≡ true → call_of r ≡ c → Comes r s c
+  unfolding record_line record_after acted_of
+  comes c good call = record { line = rw (good, call); after = rw (good, call); acted = rw (good, call); good = good }
+
+  comes_bad : is_record r ≡ false → ComesBad r s
+  unfolding record_line record_after acted_of
+  comes_bad bad = record { line = rw bad; after = rw bad; acted = rw bad; good = bad }
+
+  -- by the kind that the code finds
+  abbrev pub ComesOf : Option Kind → Type 0
+  ComesOf (Some Cycle) = Comes r s (cycle_call r) × (length r ≡ cycle_record)
+  ComesOf (Some (Frame merged)) = Comes r s (frame_call r) × (length r ≡ frame_record) × (frame_length r ≤ 244) × (merged ≡ is_merged r)
+  ComesOf (Some Return) = Comes r s (return_call r) × (length r ≡ return_record)
+  ComesOf None = ComesBad r s
+
+  by_tests : (c g f : Bool) → is_cycle r ≡ c → is_return r ≡ g → is_frame r ≡ f → ComesOf (cond c (Some Cycle) (cond g (Some Return) (cond f (Some (Frame (is_merged r))) None)))
+  unfolding is_record call_of
+  by_tests true g f x y z = (comes (cycle_call r) (rw x) (rw x), cycle_length r x)
+  by_tests false true f x y z = (comes (return_call r) (rw (x, y)) (rw (x, y)), return_length r y)
+  by_tests false false true x y z = let long = frame_lengths r z in (comes (frame_call r) (rw (x, y, z)) (rw (x, y)), long.0, long.1, refl)
+  by_tests false false false x y z = comes_bad (rw (x, y, z))
+
+  pub comes_of : (k : Option Kind) → k ≡ kind_of r → ComesOf k
+  comes_of k e = let P : Option Kind → Type 0 = ComesOf in subst P (sym (e ∙ kind_tests r)) (by_tests (is_cycle r) (is_return r) (is_frame r) refl refl refl)
+
+-- bytes are a record where they are of a kind
+pub record_kinds : (r : List ℕ) → is_some (kind_of r) ≡ is_record r
+record_kinds r = go (kind_of r) refl
+  where
+    go : (k : Option Kind) → k ≡ kind_of r → is_some k ≡ is_record r
+    go (Some Cycle) e = sym (comes_of r [] (Some Cycle) e).0.good
+    go (Some (Frame merged)) e = sym (comes_of r [] (Some (Frame merged)) e).0.good
+    go (Some Return) e = sym (comes_of r [] (Some Return) e).0.good
+    go None e = sym (comes_of r [] None e).good
 
 -- what stands past the frame
 past : (kind farm n : ℕ) (bytes : List ℕ) → drop (3 + n) (kind ∷ farm ∷ n ∷ bytes) ≡ drop n bytes
@@ -160,7 +192,7 @@ is_list (to_return r) = false
 
 module _ (s : List ℕ) where
   -- a call that answers no list, refused or not
-  unlisted : (c : Call) → ((n : ℕ) → is_list ((kind_of c).refused n) ≡ false) → ((p : List ℕ) → is_list ((kind_of c).answers p) ≡ false) → is_list (answer kinds c s) ≡ false
+  unlisted : (c : Call) → ((n : ℕ) → is_list ((call_kind c).refused n) ≡ false) → ((p : List ℕ) → is_list ((call_kind c).answers p) ≡ false) → is_list (answer kinds c s) ≡ false
   unfolding answer
   unlisted c refused done = go (station_refusal (owner c) (length s))
     where

@@ -1,12 +1,12 @@
 -- Document 01, "Journal program", the whole of it: a journal's bytes are parted into records, up to its end or to what is bad; the
 -- history is the call of each record with its answer; the lines are those of the history, then `bad`. Document 02, R-1, counts over
 -- the same history.
-use Rattle.std.specs.Prelude.{cond, List, [], ◌∷◌, ◌++◌, map, ℕ, zero, suc, length}
+use Rattle.std.specs.Prelude.{cond, List, [], ◌∷◌, ◌++◌, map, ℕ, zero, suc, length, Option, Some, None}
 use Rattle.station.specs.Parts.{farms, fresh_parts}
 use Rattle.station.specs.Calls.{Call, Answer, to_cycle, to_frame, to_list, to_return, owner, kinds}
 use Rattle.station.specs.Isolation.{answer, after}
 use Rattle.journal.specs.declared.Acted.{Acted}
-use Rattle.journal.specs.declared.Acted.TheVariants.{Cycle, Frame, Return, Bad}
+use Rattle.journal.specs.declared.Acted.TheVariants.{Cycle, Frame, Return}
 use Rattle.journal.specs.Line.{next_record, past_record, is_record, call_of, line_of, bad_line}
 
 -- the records of a journal, and what is left from the first on that is bad: nothing, where the journal ends with a record
@@ -63,12 +63,12 @@ abbrev pub replay_of : List ℕ → List ℕ
 replay_of bs = replay_from bs (fresh_parts farms)
 
 -- whose call it was, and its answer but for the reply; no record lists versions
-abbrev pub acted_by : Call → Answer → Acted
-acted_by c (to_cycle d) = Cycle (owner c) d
-acted_by c (to_frame f reply) = Frame (owner c) f
-acted_by c (to_list l) = Bad
-acted_by c (to_return r) = Return (owner c) r
+abbrev pub acted_by : Call → Answer → Option Acted
+acted_by c (to_cycle d) = Some (Cycle (owner c) d)
+acted_by c (to_frame f reply) = Some (Frame (owner c) f)
+acted_by c (to_list l) = None
+acted_by c (to_return r) = Some (Return (owner c) r)
 
 -- what the bytes r do on the station s, told by `act`
-unfoldable pub acted_of : List ℕ → List ℕ → Acted
-acted_of r s = cond (is_record r) (acted_by (call_of r) (answer kinds (call_of r) s)) Bad
+unfoldable pub acted_of : List ℕ → List ℕ → Option Acted
+acted_of r s = cond (is_record r) (acted_by (call_of r) (answer kinds (call_of r) s)) None

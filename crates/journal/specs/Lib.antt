@@ -1,4 +1,6 @@
 pub mod Text
+pub mod Written
 pub mod Line
+pub mod Kinds
 pub mod History
 pub mod Laws

@@ -2,10 +2,10 @@
 ghost use Rattle.std.specs.Prelude.{◌≡◌, ◌≤◌, length};
 ghost use Rattle.station.specs.Isolation.{answer, after};
 ghost use Rattle.station.specs.Calls.{kinds, to_cycle, to_frame, to_return};
-ghost use Rattle.journal.specs.Line.{cycle_record, frame_record, return_record, frame_length, cycle_call, frame_call, return_call, reply_room};
+ghost use Rattle.journal.specs.Line.{cycle_record, frame_record, return_record, frame_length, is_merged, cycle_call, frame_call, return_call, reply_room};
 
 use super::record;
-use station::{CycleDone, Framed, Returned};
+use station::{CycleDone, Framed, Returned, Sent};
 
 // The cycle of a record.
 pub(crate) fn cycle(station: &mut [u8], bytes: &[u8]) -> CycleDone
@@ -13,35 +13,31 @@ pub(crate) fn cycle(station: &mut [u8], bytes: &[u8]) -> CycleDone
     ensures result_value { to_cycle result ≡ answer kinds (cycle_call bytes.now) station.old }
     ensures station_after { station.new ≡ after kinds (cycle_call bytes.now) station.old }
 {
-    let stw1 = codes::word_at(bytes, 3);
-    let nsoll = codes::signed16(codes::word_at(bytes, 5));
-    let nist = codes::signed16(codes::word_at(bytes, 7));
-    let fault = codes::word_at(bytes, 9);
-    station::cycle(
-        station,
-        bytes[1] as u32,
-        bytes[2] as u32,
-        stw1,
-        nsoll,
-        nist,
-        fault,
-    )
+    let sent = Sent {
+        flags: bytes[2] as u32,
+        stw1: codes::word_at(bytes, 3),
+        nsoll: codes::word_at(bytes, 5).cast_signed(),
+        nist: codes::word_at(bytes, 7).cast_signed(),
+        fault: codes::word_at(bytes, 9),
+    };
+    station::cycle(station, bytes[1] as u32, sent)
 }
 
 // The frame of a record, by itself or as the merged call, answered in a reply memory of zeros.
-pub(crate) fn frame(station: &mut [u8], bytes: &[u8], reply: &mut [u8]) -> Framed
-    requires { (length bytes.now ≡ frame_record) × ((frame_length bytes.now ≤ 244) × (reply.old ≡ reply_room)) }
+pub(crate) fn frame(station: &mut [u8], bytes: &[u8], merged: bool, reply: &mut [u8]) -> Framed
+    requires { (length bytes.now ≡ frame_record) × ((frame_length bytes.now ≤ 244) × ((merged ≡ is_merged bytes.now) × (reply.old ≡ reply_room))) }
     ensures reply_after { to_frame result reply.new ≡ answer kinds (frame_call bytes.now) station.old }
     ensures length_bound { result.length ≤ 244 }
     ensures station_after { station.new ≡ after kinds (frame_call bytes.now) station.old }
 {
-    let farm = bytes[1] as u32;
-    let end = record::FRAME_HEAD + codes::wide(bytes[2]);
+    let farm = u32::from(bytes[1]);
+    let end = record::FRAME_HEAD + usize::from(bytes[2]);
     let f = &bytes[record::FRAME_HEAD..end];
-    if record::is_merged(bytes) {
-        return station::exchange(station, farm, f, reply);
+    if merged {
+        station::exchange(station, farm, f, reply)
+    } else {
+        station::frame(station, farm, f, reply)
     }
-    station::frame(station, farm, f, reply)
 }
 
 // The going back of a record.
@@ -51,5 +47,5 @@ pub(crate) fn go_back(station: &mut [u8], bytes: &[u8]) -> Returned
     ensures station_after { station.new ≡ after kinds (return_call bytes.now) station.old }
 {
     let version = codes::word_at(bytes, 2);
-    station::go_back(station, bytes[1] as u32, version as u32)
+    station::go_back(station, u32::from(bytes[1]), u32::from(version))
 }

@@ -1,55 +1,23 @@
 // The layouts of document 01's request and response blocks, with 02's R-2, and both sides of each of their limits: a line for each case.
 #![tactic(auto)]
 
-ghost use Rattle.std.specs.Prelude.{◌≤◌};
-
+use blocks::Header;
 use blocks::reader::{Address, FIRST, address_at};
 use blocks::writer::{block_size, put_block, put_empty, put_error, put_header};
-use blocks::Header;
 use std::io;
 
 // More bytes than a block has.
 const ROOM: usize = 244;
 
-fn print(rt: &impl Print, text: &str) -> io::Result<()> {
-    rt.print(text)
-}
-
-fn wide(x: u8) -> u64 {
-    x as u64
-}
-
-fn print_number(rt: &impl Print, label: &str, n: u64) -> io::Result<()> {
-    print(rt, label)?;
-    rt.print(n)
-}
-
-fn print_hex(rt: &impl Print, label: &str, x: u8) -> io::Result<()> {
-    print(rt, label)?;
-    let x = wide(x);
-    print!(rt; "{x:02x}")
-}
-
-fn print_bytes(rt: &impl Print, s: &[u8]) -> io::Result<()> {
-    for i in 0..s.len() {
-        print_hex(rt, " ", s[i])?;
-    }
-    Ok(())
-}
-
-fn print_verdict(rt: &impl Print, yes: bool) -> io::Result<()> {
-    if yes {
-        print(rt, ": yes\n")
-    } else {
-        print(rt, ": no\n")
-    }
+fn yes_or_no(yes: bool) -> &'static str {
+    if yes { "yes" } else { "no" }
 }
 
 fn print_header(rt: &impl Print, h: Header) -> io::Result<()> {
-    print_number(rt, "reference ", wide(h.reference))?;
-    print_hex(rt, ", identifier ", h.identifier)?;
-    print_number(rt, ", axis ", wide(h.axis))?;
-    print_number(rt, ", N ", wide(h.count))
+    print!(rt;
+        "reference {}, identifier {:02x}, axis {}, N {}",
+        h.reference, h.identifier, h.axis, h.count
+    )
 }
 
 fn header(reference: u8, identifier: u8, axis: u8, count: u8) -> Header {
@@ -63,76 +31,58 @@ fn header(reference: u8, identifier: u8, axis: u8, count: u8) -> Header {
 
 // A header, and zeros after it.
 fn headed(h: Header) -> [u8; ROOM] {
-    let mut block = [0u8; ROOM];
+    let mut block = [0; ROOM];
     put_header(&mut block, h);
     block
 }
 
 // The first `len` bytes, or all where there are no more.
-fn first<'a>(block: &'a [u8], len: usize) -> &'a [u8] {
-    if block.len() < len {
-        return block;
-    }
-    &block[..len]
+fn first(block: &[u8], len: usize) -> &[u8] {
+    block.get(..len).unwrap_or(block)
 }
 
 fn asks(rt: &impl Print, label: &str, block: &[u8]) -> io::Result<()> {
-    print(rt, "request, ")?;
-    print(rt, label)?;
-    print_verdict(rt, blocks::request_readable(block))
+    let verdict = yes_or_no(blocks::request_readable(block));
+    println!(rt; "request, {label}: {verdict}")
 }
 
 fn answers(rt: &impl Print, label: &str, block: &[u8]) -> io::Result<()> {
-    print(rt, "response, ")?;
-    print(rt, label)?;
-    print_verdict(rt, blocks::response_readable(block))
+    let verdict = yes_or_no(blocks::response_readable(block));
+    println!(rt; "response, {label}: {verdict}")
 }
 
 // A request of a header and zeros.
 fn request(rt: &impl Print, h: Header, len: usize) -> io::Result<()> {
-    let block = headed(h);
-    print(rt, "request of ")?;
+    let verdict = yes_or_no(blocks::request_readable(first(&headed(h), len)));
+    rt.print("request of ")?;
     print_header(rt, h)?;
-    print_number(rt, ", bytes ", len as u64)?;
-    print_verdict(rt, blocks::request_readable(first(&block, len)))
+    println!(rt; ", bytes {len}: {verdict}")
 }
 
 // A response of a header alone.
 fn response(rt: &impl Print, h: Header) -> io::Result<()> {
-    let block = headed(h);
-    print(rt, "response of ")?;
+    let verdict = yes_or_no(blocks::response_readable(first(&headed(h), 4)));
+    rt.print("response of ")?;
     print_header(rt, h)?;
-    print_verdict(rt, blocks::response_readable(first(&block, 4)))
-}
-
-fn print_block(rt: &impl Print, f: u8, n: u8, bytes: usize) -> io::Result<()> {
-    print_hex(rt, ", block ", f)?;
-    print_hex(rt, " ", n)?;
-    print_number(rt, " and bytes ", bytes as u64)
+    println!(rt; ": {verdict}")
 }
 
 // A change of one parameter: n values of the format f, zeros, in so many bytes.
-fn change(rt: &impl Print, f: u8, n: u8, bytes: usize) -> io::Result<()>
-    requires { bytes ≤ 230 }
-{
+fn change(rt: &impl Print, f: u8, n: u8, bytes: u8) -> io::Result<()> {
     let mut block = headed(header(7, 2, 1, 1));
     block[10] = f;
     block[11] = n;
-    print(rt, "change")?;
-    print_block(rt, f, n, bytes)?;
-    print_verdict(rt, blocks::request_readable(first(&block, 12 + bytes)))
+    let verdict = yes_or_no(blocks::request_readable(first(&block, 12 + usize::from(bytes))));
+    println!(rt; "change, block {f:02x} {n:02x} and bytes {bytes}: {verdict}")
 }
 
 // The answer for one parameter: n values of the format f, zeros, in so many bytes.
-fn answer(rt: &impl Print, id: u8, f: u8, n: u8, bytes: usize) -> io::Result<()>
-    requires { bytes ≤ 236 }
-{
+fn answer(rt: &impl Print, id: u8, f: u8, n: u8, bytes: u8) -> io::Result<()> {
     let mut block = headed(header(7, id, 1, 1));
     block[4] = f;
     block[5] = n;
-    print_hex(rt, "response ", id)?;
-    print_block(rt, f, n, bytes)?;
-    print_verdict(rt, blocks::response_readable(first(&block, 6 + bytes)))
+    let verdict = yes_or_no(blocks::response_readable(first(&block, 6 + usize::from(bytes))));
+    println!(rt; "response {id:02x}, block {f:02x} {n:02x} and bytes {bytes}: {verdict}")
 }
 
 fn marks(rt: &impl Print) -> io::Result<()> {
@@ -143,211 +93,256 @@ fn marks(rt: &impl Print) -> io::Result<()> {
 }
 
 fn request_headers(rt: &impl Print) -> io::Result<()> {
-    request(rt, header(7, 1, 1, 1), 10)?;
-    request(rt, header(0, 1, 1, 1), 10)?;
-    request(rt, header(1, 1, 1, 1), 10)?;
-    request(rt, header(255, 1, 1, 1), 10)?;
-    request(rt, header(7, 0, 1, 1), 10)?;
-    request(rt, header(7, 2, 1, 1), 10)?;
-    request(rt, header(7, 3, 1, 1), 10)?;
-    request(rt, header(7, 1, 0, 1), 10)?;
-    request(rt, header(7, 1, 255, 1), 10)?;
-    request(rt, header(7, 1, 1, 0), 4)?;
-    request(rt, header(7, 1, 1, 2), 10)
+    for (h, len) in [
+        (header(7, 1, 1, 1), 10),
+        (header(0, 1, 1, 1), 10),
+        (header(1, 1, 1, 1), 10),
+        (header(255, 1, 1, 1), 10),
+        (header(7, 0, 1, 1), 10),
+        (header(7, 2, 1, 1), 10),
+        (header(7, 3, 1, 1), 10),
+        (header(7, 1, 0, 1), 10),
+        (header(7, 1, 255, 1), 10),
+        (header(7, 1, 1, 0), 4),
+        (header(7, 1, 1, 2), 10),
+    ] {
+        request(rt, h, len)?;
+    }
+    Ok(())
 }
 
 fn request_sizes(rt: &impl Print) -> io::Result<()> {
-    request(rt, header(7, 1, 1, 1), 0)?;
-    request(rt, header(7, 1, 1, 1), 1)?;
-    request(rt, header(7, 1, 1, 1), 2)?;
-    request(rt, header(7, 1, 1, 1), 3)?;
-    request(rt, header(7, 1, 1, 1), 4)?;
-    request(rt, header(7, 1, 1, 1), 9)?;
-    request(rt, header(7, 1, 1, 1), 11)?;
-    request(rt, header(7, 1, 1, 39), 237)?;
-    request(rt, header(7, 1, 1, 39), 238)?;
-    request(rt, header(7, 1, 1, 39), 239)?;
-    request(rt, header(7, 1, 1, 40), 240)?;
-    request(rt, header(7, 1, 1, 40), 244)
+    for (h, len) in [
+        (header(7, 1, 1, 1), 0),
+        (header(7, 1, 1, 1), 1),
+        (header(7, 1, 1, 1), 2),
+        (header(7, 1, 1, 1), 3),
+        (header(7, 1, 1, 1), 4),
+        (header(7, 1, 1, 1), 9),
+        (header(7, 1, 1, 1), 11),
+        (header(7, 1, 1, 39), 237),
+        (header(7, 1, 1, 39), 238),
+        (header(7, 1, 1, 39), 239),
+        (header(7, 1, 1, 40), 240),
+        (header(7, 1, 1, 40), 244),
+    ] {
+        request(rt, h, len)?;
+    }
+    Ok(())
 }
 
 // Every format with its size.
 fn formats(rt: &impl Print) -> io::Result<()> {
-    change(rt, 0x41, 2, 2)?;
-    change(rt, 2, 2, 2)?;
-    change(rt, 5, 2, 2)?;
-    change(rt, 0x42, 2, 4)?;
-    change(rt, 3, 2, 4)?;
-    change(rt, 6, 2, 4)?;
-    change(rt, 0x43, 2, 8)?;
-    change(rt, 4, 2, 8)?;
-    change(rt, 7, 2, 8)
+    for (f, n, bytes) in [
+        (0x41, 2, 2),
+        (2, 2, 2),
+        (5, 2, 2),
+        (0x42, 2, 4),
+        (3, 2, 4),
+        (6, 2, 4),
+        (0x43, 2, 8),
+        (4, 2, 8),
+        (7, 2, 8),
+    ] {
+        change(rt, f, n, bytes)?;
+    }
+    Ok(())
 }
 
 // Formats of no request, and sizes that are not the format's.
 fn wrong_formats(rt: &impl Print) -> io::Result<()> {
-    change(rt, 8, 1, 4)?;
-    change(rt, 0x44, 1, 2)?;
-    change(rt, 0x40, 0, 0)?;
-    change(rt, 0, 0, 0)?;
-    change(rt, 5, 2, 4)?;
-    change(rt, 6, 2, 3)?;
-    change(rt, 6, 2, 5)?;
-    change(rt, 7, 2, 4)?;
-    change(rt, 4, 2, 7)?;
-    change(rt, 4, 2, 6)
+    for (f, n, bytes) in [
+        (8, 1, 4),
+        (0x44, 1, 2),
+        (0x40, 0, 0),
+        (0, 0, 0),
+        (5, 2, 4),
+        (6, 2, 3),
+        (6, 2, 5),
+        (7, 2, 4),
+        (4, 2, 7),
+        (4, 2, 6),
+    ] {
+        change(rt, f, n, bytes)?;
+    }
+    Ok(())
 }
 
 // Zero values, and the most bytes.
 fn counts(rt: &impl Print) -> io::Result<()> {
-    change(rt, 0x41, 0, 0)?;
-    change(rt, 0x42, 0, 0)?;
-    change(rt, 0x43, 0, 0)?;
-    change(rt, 0x42, 0, 2)?;
-    change(rt, 0x41, 227, 227)?;
-    change(rt, 0x41, 227, 228)?;
-    change(rt, 0x41, 228, 228)?;
-    change(rt, 0x41, 229, 228)?;
-    change(rt, 0x41, 229, 230)
+    for (f, n, bytes) in [
+        (0x41, 0, 0),
+        (0x42, 0, 0),
+        (0x43, 0, 0),
+        (0x42, 0, 2),
+        (0x41, 227, 227),
+        (0x41, 227, 228),
+        (0x41, 228, 228),
+        (0x41, 229, 228),
+        (0x41, 229, 230),
+    ] {
+        change(rt, f, n, bytes)?;
+    }
+    Ok(())
 }
 
 // An odd number of byte values without its fill, with it, and with a byte more; no other number has one.
 fn fill_sizes(rt: &impl Print) -> io::Result<()> {
-    change(rt, 0x41, 1, 1)?;
-    change(rt, 0x41, 1, 2)?;
-    change(rt, 0x41, 1, 3)?;
-    change(rt, 0x41, 2, 3)?;
-    change(rt, 0x41, 0, 1)?;
-    change(rt, 2, 3, 3)?;
-    change(rt, 2, 3, 4)?;
-    change(rt, 5, 3, 4)?;
-    change(rt, 5, 3, 5)?;
-    change(rt, 6, 1, 3)?;
-    change(rt, 7, 1, 5)
+    for (f, n, bytes) in [
+        (0x41, 1, 1),
+        (0x41, 1, 2),
+        (0x41, 1, 3),
+        (0x41, 2, 3),
+        (0x41, 0, 1),
+        (2, 3, 3),
+        (2, 3, 4),
+        (5, 3, 4),
+        (5, 3, 5),
+        (6, 1, 3),
+        (7, 1, 5),
+    ] {
+        change(rt, f, n, bytes)?;
+    }
+    Ok(())
 }
 
 // A change of two parameters, whose blocks of values are these.
 fn filled(rt: &impl Print, label: &str, values: &[u8]) -> io::Result<()> {
     let mut block = headed(header(7, 2, 1, 2));
-    codes::put_bytes(&mut block, 16, values);
-    if values.len() <= 228 {
-        asks(rt, label, first(&block, 16 + values.len()))?;
+    if let Some(place) = block[16..].get_mut(..values.len()) {
+        place.copy_from_slice(values);
+        asks(rt, label, &block[..16 + values.len()])?;
     }
     Ok(())
 }
 
 // The fill is zero, and stands after each odd number of byte values.
 fn fills(rt: &impl Print) -> io::Result<()> {
-    filled(
-        rt,
-        "a byte, filled, and a word",
-        b"\x41\x01\x03\x00\x42\x01\x00\x05",
-    )?;
-    filled(
-        rt,
-        "a byte, filled with 01, and a word",
-        b"\x41\x01\x03\x01\x42\x01\x00\x05",
-    )?;
-    filled(
-        rt,
-        "a byte, filled with FF, and a word",
-        b"\x41\x01\x03\xFF\x42\x01\x00\x05",
-    )?;
-    filled(rt, "a byte and a word", b"\x41\x01\x03\x42\x01\x00\x05")?;
-    filled(
-        rt,
-        "a byte, filled twice, and a word",
-        b"\x41\x01\x03\x00\x00\x42\x01\x00\x05",
-    )?;
-    filled(
-        rt,
-        "a byte and a word, filled at the end",
-        b"\x41\x01\x03\x42\x01\x00\x05\x00",
-    )
+    let cases: [(&str, &[u8]); 6] = [
+        (
+            "a byte, filled, and a word",
+            b"\x41\x01\x03\x00\x42\x01\x00\x05",
+        ),
+        (
+            "a byte, filled with 01, and a word",
+            b"\x41\x01\x03\x01\x42\x01\x00\x05",
+        ),
+        (
+            "a byte, filled with FF, and a word",
+            b"\x41\x01\x03\xFF\x42\x01\x00\x05",
+        ),
+        ("a byte and a word", b"\x41\x01\x03\x42\x01\x00\x05"),
+        (
+            "a byte, filled twice, and a word",
+            b"\x41\x01\x03\x00\x00\x42\x01\x00\x05",
+        ),
+        (
+            "a byte and a word, filled at the end",
+            b"\x41\x01\x03\x42\x01\x00\x05\x00",
+        ),
+    ];
+    for (label, values) in cases {
+        filled(rt, label, values)?;
+    }
+    Ok(())
 }
 
 // In the last block too, and in each of two.
 fn fills_of_each(rt: &impl Print) -> io::Result<()> {
-    filled(
-        rt,
-        "a word and a byte, filled",
-        b"\x42\x01\x00\x05\x05\x01\x03\x00",
-    )?;
-    filled(
-        rt,
-        "a word and a byte, filled with 01",
-        b"\x42\x01\x00\x05\x05\x01\x03\x01",
-    )?;
-    filled(
-        rt,
-        "two bytes, each filled",
-        b"\x41\x01\x03\x00\x41\x01\x29\x00",
-    )?;
-    filled(
-        rt,
-        "two bytes, filled at the end",
-        b"\x41\x01\x03\x41\x01\x29\x00\x00",
-    )?;
-    filled(
-        rt,
-        "two bytes in one block and a word",
-        b"\x41\x02\x03\x00\x42\x01\x00\x05",
-    )
+    let cases: [(&str, &[u8]); 5] = [
+        (
+            "a word and a byte, filled",
+            b"\x42\x01\x00\x05\x05\x01\x03\x00",
+        ),
+        (
+            "a word and a byte, filled with 01",
+            b"\x42\x01\x00\x05\x05\x01\x03\x01",
+        ),
+        (
+            "two bytes, each filled",
+            b"\x41\x01\x03\x00\x41\x01\x29\x00",
+        ),
+        (
+            "two bytes, filled at the end",
+            b"\x41\x01\x03\x41\x01\x29\x00\x00",
+        ),
+        (
+            "two bytes in one block and a word",
+            b"\x41\x02\x03\x00\x42\x01\x00\x05",
+        ),
+    ];
+    for (label, values) in cases {
+        filled(rt, label, values)?;
+    }
+    Ok(())
 }
 
 fn response_headers(rt: &impl Print) -> io::Result<()> {
-    response(rt, header(7, 2, 1, 1))?;
-    response(rt, header(0, 2, 1, 1))?;
-    response(rt, header(1, 2, 1, 1))?;
-    response(rt, header(255, 2, 1, 1))?;
-    response(rt, header(7, 0, 1, 1))?;
-    response(rt, header(7, 1, 1, 1))?;
-    response(rt, header(7, 3, 1, 1))?;
-    response(rt, header(7, 0x80, 1, 1))?;
-    response(rt, header(7, 0x81, 1, 1))?;
-    response(rt, header(7, 0x82, 1, 1))?;
-    response(rt, header(7, 0x83, 1, 1))?;
-    response(rt, header(7, 2, 0, 1))?;
-    response(rt, header(7, 2, 255, 1))?;
-    response(rt, header(7, 2, 1, 0))?;
-    response(rt, header(7, 2, 1, 39))?;
-    response(rt, header(7, 2, 1, 40))?;
+    for h in [
+        header(7, 2, 1, 1),
+        header(0, 2, 1, 1),
+        header(1, 2, 1, 1),
+        header(255, 2, 1, 1),
+        header(7, 0, 1, 1),
+        header(7, 1, 1, 1),
+        header(7, 3, 1, 1),
+        header(7, 0x80, 1, 1),
+        header(7, 0x81, 1, 1),
+        header(7, 0x82, 1, 1),
+        header(7, 0x83, 1, 1),
+        header(7, 2, 0, 1),
+        header(7, 2, 255, 1),
+        header(7, 2, 1, 0),
+        header(7, 2, 1, 39),
+        header(7, 2, 1, 40),
+    ] {
+        response(rt, h)?;
+    }
     answers(rt, "02 and a byte more", b"\x07\x02\x01\x01\x00")?;
     answers(rt, "three bytes", b"\x07\x02\x01")
 }
 
 fn read_answers(rt: &impl Print) -> io::Result<()> {
-    answer(rt, 1, 0x41, 3, 3)?;
-    answer(rt, 1, 0x41, 3, 4)?;
-    answer(rt, 1, 0x41, 3, 5)?;
-    answer(rt, 1, 0x41, 2, 2)?;
-    answer(rt, 1, 0x41, 2, 3)?;
-    answer(rt, 1, 0x42, 2, 4)?;
-    answer(rt, 1, 0x42, 2, 3)?;
-    answer(rt, 1, 0x43, 1, 4)?;
-    answer(rt, 1, 0x42, 0, 0)?;
-    answer(rt, 1, 5, 1, 2)?;
-    answer(rt, 1, 6, 1, 2)?;
-    answer(rt, 1, 0x40, 0, 0)?;
-    answer(rt, 1, 0x44, 1, 2)?;
-    answer(rt, 1, 0x41, 233, 234)?;
-    answer(rt, 1, 0x41, 234, 234)?;
-    answer(rt, 1, 0x41, 235, 236)?;
-    answer(rt, 3, 0x42, 1, 2)?;
-    answer(rt, 0x81, 0x42, 1, 2)?;
-    answer(rt, 0x81, 0x44, 1, 2)?;
-    answer(rt, 0x80, 0x44, 1, 2)
+    for (id, f, n, bytes) in [
+        (1, 0x41, 3, 3),
+        (1, 0x41, 3, 4),
+        (1, 0x41, 3, 5),
+        (1, 0x41, 2, 2),
+        (1, 0x41, 2, 3),
+        (1, 0x42, 2, 4),
+        (1, 0x42, 2, 3),
+        (1, 0x43, 1, 4),
+        (1, 0x42, 0, 0),
+        (1, 5, 1, 2),
+        (1, 6, 1, 2),
+        (1, 0x40, 0, 0),
+        (1, 0x44, 1, 2),
+        (1, 0x41, 233, 234),
+        (1, 0x41, 234, 234),
+        (1, 0x41, 235, 236),
+        (3, 0x42, 1, 2),
+        (0x81, 0x42, 1, 2),
+        (0x81, 0x44, 1, 2),
+        (0x80, 0x44, 1, 2),
+    ] {
+        answer(rt, id, f, n, bytes)?;
+    }
+    Ok(())
 }
 
 fn change_answers(rt: &impl Print) -> io::Result<()> {
-    answer(rt, 0x82, 0x40, 0, 0)?;
-    answer(rt, 0x82, 0x42, 1, 2)?;
-    answer(rt, 0x82, 0x44, 0, 0)?;
-    answer(rt, 0x82, 0x44, 1, 1)?;
-    answer(rt, 0x82, 0x44, 1, 2)?;
-    answer(rt, 0x82, 0x44, 1, 3)?;
-    answer(rt, 0x82, 0x44, 2, 4)?;
-    answer(rt, 0x83, 0x44, 1, 2)?;
+    for (id, f, n, bytes) in [
+        (0x82, 0x40, 0, 0),
+        (0x82, 0x42, 1, 2),
+        (0x82, 0x44, 0, 0),
+        (0x82, 0x44, 1, 1),
+        (0x82, 0x44, 1, 2),
+        (0x82, 0x44, 1, 3),
+        (0x82, 0x44, 2, 4),
+        (0x83, 0x44, 1, 2),
+    ] {
+        answer(rt, id, f, n, bytes)?;
+    }
     answers(rt, "the worked answer", b"\x07\x82\x01\x01\x44\x01\x00\x02")?;
     answers(
         rt,
@@ -358,36 +353,39 @@ fn change_answers(rt: &impl Print) -> io::Result<()> {
 
 // Answers for two parameters.
 fn pairs(rt: &impl Print) -> io::Result<()> {
-    answers(
-        rt,
-        "81 with value and error",
-        b"\x07\x81\x01\x02\x42\x01\x00\x05\x44\x01\x00\x02",
-    )?;
-    answers(
-        rt,
-        "81 with two values",
-        b"\x07\x81\x01\x02\x42\x01\x00\x05\x41\x01\x03\x00",
-    )?;
-    answers(
-        rt,
-        "81 with a byte, filled, and error",
-        b"\x07\x81\x01\x02\x41\x01\x03\x00\x44\x01\x00\x02",
-    )?;
-    answers(
-        rt,
-        "81 with a byte, filled with 01, and error",
-        b"\x07\x81\x01\x02\x41\x01\x03\x01\x44\x01\x00\x02",
-    )?;
-    answers(
-        rt,
-        "81 with a byte and error",
-        b"\x07\x81\x01\x02\x41\x01\x03\x44\x01\x00\x02",
-    )?;
-    answers(
-        rt,
-        "81 with 40 00 and error",
-        b"\x07\x81\x01\x02\x40\x00\x44\x01\x00\x02",
-    )?;
+    let cases: [(&str, &[u8]); 6] = [
+        (
+            "81 with value and error",
+            b"\x07\x81\x01\x02\x42\x01\x00\x05\x44\x01\x00\x02",
+        ),
+        (
+            "81 with two values",
+            b"\x07\x81\x01\x02\x42\x01\x00\x05\x41\x01\x03\x00",
+        ),
+        (
+            "81 with a byte, filled, and error",
+            b"\x07\x81\x01\x02\x41\x01\x03\x00\x44\x01\x00\x02",
+        ),
+        (
+            "81 with a byte, filled with 01, and error",
+            b"\x07\x81\x01\x02\x41\x01\x03\x01\x44\x01\x00\x02",
+        ),
+        (
+            "81 with a byte and error",
+            b"\x07\x81\x01\x02\x41\x01\x03\x44\x01\x00\x02",
+        ),
+        (
+            "81 with 40 00 and error",
+            b"\x07\x81\x01\x02\x40\x00\x44\x01\x00\x02",
+        ),
+    ];
+    for (label, block) in cases {
+        answers(rt, label, block)?;
+    }
+    Ok(())
+}
+
+fn change_pairs(rt: &impl Print) -> io::Result<()> {
     answers(
         rt,
         "82 with 40 00 and error",
@@ -401,58 +399,55 @@ fn pairs(rt: &impl Print) -> io::Result<()> {
 }
 
 fn wrong_pairs(rt: &impl Print) -> io::Result<()> {
-    answers(
-        rt,
-        "82 with 40 00 twice",
-        b"\x07\x82\x01\x02\x40\x00\x40\x00",
-    )?;
-    answers(
-        rt,
-        "82 with 40 01 and error",
-        b"\x07\x82\x01\x02\x40\x01\x44\x01\x00\x02",
-    )?;
-    answers(
-        rt,
-        "82 with value and error",
-        b"\x07\x82\x01\x02\x42\x01\x00\x05\x44\x01\x00\x02",
-    )?;
-    answers(
-        rt,
-        "01 with value and error",
-        b"\x07\x01\x01\x02\x42\x01\x00\x05\x44\x01\x00\x02",
-    )?;
-    answers(
-        rt,
-        "82 with one block for two parameters",
-        b"\x07\x82\x01\x02\x44\x01\x00\x02",
-    )
+    let cases: [(&str, &[u8]); 5] = [
+        ("82 with 40 00 twice", b"\x07\x82\x01\x02\x40\x00\x40\x00"),
+        (
+            "82 with 40 01 and error",
+            b"\x07\x82\x01\x02\x40\x01\x44\x01\x00\x02",
+        ),
+        (
+            "82 with value and error",
+            b"\x07\x82\x01\x02\x42\x01\x00\x05\x44\x01\x00\x02",
+        ),
+        (
+            "01 with value and error",
+            b"\x07\x01\x01\x02\x42\x01\x00\x05\x44\x01\x00\x02",
+        ),
+        (
+            "82 with one block for two parameters",
+            b"\x07\x82\x01\x02\x44\x01\x00\x02",
+        ),
+    ];
+    for (label, block) in cases {
+        answers(rt, label, block)?;
+    }
+    Ok(())
 }
 
 fn print_address(rt: &impl Print, a: Address) -> io::Result<()> {
-    print_hex(rt, "address: attribute ", a.attribute)?;
-    print_number(rt, ", elements ", wide(a.elements))?;
-    print_number(rt, ", PNU ", a.pnu as u64)?;
-    print_number(rt, ", sub-index ", a.subindex as u64)
+    print!(rt;
+        "address: attribute {:02x}, elements {}, PNU {}, sub-index {}",
+        a.attribute, a.elements, a.pnu, a.subindex
+    )
 }
 
 // Answers where the addresses end.
 fn print_addresses(rt: &impl Print, block: &[u8]) -> io::Result<usize> {
     let mut at = FIRST;
-    for _ in 0..block.len() {
+    for _ in block {
         let Some((a, next)) = address_at(block, at) else {
-            return Ok(at);
+            break;
         };
         print_address(rt, a)?;
-        print_number(rt, ", next at ", next as u64)?;
-        print(rt, "\n")?;
+        println!(rt; ", next at {next}")?;
         at = next;
     }
     Ok(at)
 }
 
 fn print_values(rt: &impl Print, block: &[u8], at: usize, n: u8) -> io::Result<()> {
-    for j in 0..codes::wide(n) {
-        print_number(rt, " ", blocks::value_at(block, at, j) as u64)?;
+    for j in 0..usize::from(n) {
+        print!(rt; " {}", blocks::value_at(block, at, j))?;
     }
     Ok(())
 }
@@ -461,15 +456,11 @@ fn print_blocks(rt: &impl Print, block: &[u8], from: usize, n: u8) -> io::Result
     let mut at = from;
     for _ in 0..n {
         let Some(h) = blocks::block_at(block, at) else {
-            print(rt, "no block\n")?;
-            return Ok(());
+            return rt.println("no block");
         };
-        print_hex(rt, "block: format ", h.format)?;
-        print_number(rt, ", values ", wide(h.count))?;
-        print(rt, ":")?;
+        print!(rt; "block: format {:02x}, values {}:", h.format, h.count)?;
         print_values(rt, block, at, h.count)?;
-        print_number(rt, ", next at ", h.next as u64)?;
-        print(rt, "\n")?;
+        println!(rt; ", next at {}", h.next)?;
         at = h.next;
     }
     Ok(())
@@ -477,9 +468,9 @@ fn print_blocks(rt: &impl Print, block: &[u8], from: usize, n: u8) -> io::Result
 
 fn reads(rt: &impl Print, block: &[u8]) -> io::Result<()> {
     let h = blocks::header_of(block);
-    print(rt, "header: ")?;
+    rt.print("header: ")?;
     print_header(rt, h)?;
-    print(rt, "\n")?;
+    rt.print("\n")?;
     let from = print_addresses(rt, block)?;
     print_blocks(rt, block, from, h.count)
 }
@@ -498,10 +489,11 @@ fn readings(rt: &impl Print) -> io::Result<()> {
 }
 
 fn print_array(rt: &impl Print, label: &str, out: &[u8]) -> io::Result<()> {
-    print(rt, label)?;
-    print(rt, ":")?;
-    print_bytes(rt, out)?;
-    print(rt, "\n")
+    print!(rt; "{label}:")?;
+    for byte in out {
+        print!(rt; " {byte:02x}")?;
+    }
+    rt.print("\n")
 }
 
 fn written_values(rt: &impl Print) -> io::Result<()> {
@@ -526,10 +518,12 @@ fn written_errors(rt: &impl Print) -> io::Result<()> {
 // Parts that do not fit, and then one that just fits.
 fn fitting(rt: &impl Print) -> io::Result<()> {
     let mut out = [0xFFu8; 10];
-    print_number(rt, "bytes of two words: ", block_size(0x42, 2) as u64)?;
-    print_number(rt, ", of a byte: ", block_size(0x41, 1) as u64)?;
-    print_number(rt, ", of two: ", block_size(0x41, 2) as u64)?;
-    print(rt, "\n")?;
+    println!(rt;
+        "bytes of two words: {}, of a byte: {}, of two: {}",
+        block_size(0x42, 2),
+        block_size(0x41, 1),
+        block_size(0x41, 2)
+    )?;
     put_block(&mut out, 5, 0x42, &[1000, 3000]);
     print_array(rt, "two words at 5 of 10", &out)?;
     put_error(&mut out, 7, 2);
@@ -561,6 +555,7 @@ fn main(rt: HostRuntime) -> io::Result<()> {
     read_answers(&rt)?;
     change_answers(&rt)?;
     pairs(&rt)?;
+    change_pairs(&rt)?;
     wrong_pairs(&rt)?;
     readings(&rt)?;
     written_values(&rt)?;

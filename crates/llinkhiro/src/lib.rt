@@ -9,7 +9,7 @@ ghost use Rattle.station.specs.Isolation.{answer, after};
 ghost use Rattle.station.specs.Calls.{kinds, cycle, frame, exchange, list, go_back};
 ghost use Rattle.llinkhiro.specs.Host.{of_cycle, of_frame, of_list, of_return, handed};
 
-use station::{Cycled, Framed, Listed, Returned};
+use station::{Cycled, Framed, Listed, Returned, Sent};
 
 // Bytes of a station's memory.
 #[unsafe(no_mangle)]
@@ -25,7 +25,10 @@ pub extern "C" fn llinkhiro_fresh(station: &mut [u8]) -> u8
     ensures value { result ≡ fresh_number station.old }
     ensures station_after { station.new ≡ fresh_station station.old }
 {
-    station::fresh(station)
+    match station::fresh(station) {
+        Ok(()) => 0,
+        Err(refusal) => u8::from(refusal),
+    }
 }
 
 // A control cycle of an axis.
@@ -42,8 +45,14 @@ pub extern "C" fn llinkhiro_cycle(
     ensures result_value { of_cycle result ≡ handed (answer kinds (cycle axis (record { flags = flags; stw1 = stw1; nsoll = nsoll; nist = nist; fault = fault })) station.old) }
     ensures station_after { station.new ≡ after kinds (cycle axis (record { flags = flags; stw1 = stw1; nsoll = nsoll; nist = nist; fault = fault })) station.old }
 {
-    let c = station::cycle(station, axis, flags, stw1, nsoll, nist, fault);
-    c.told
+    let sent = Sent {
+        flags,
+        stw1,
+        nsoll,
+        nist,
+        fault,
+    };
+    station::cycle(station, axis, sent).told
 }
 
 // A frame of a farm, answered in the reply memory.

@@ -120,13 +120,13 @@ effective_fits s w last setpoint h k =
 pub cycled_fits : (d : Drive) (i : Input) → Fits d → InputFits i → Fits (cycle_of d i).drive
 unfolding cycle_of word_used setpoint_used
 cycled_fits d i f g =
-    let setpoint = either SpeedFits (word_of i.stw1).b10 i.nsoll d.setpoint g.nsoll f.setpoint in
+    let setpoint = either SpeedFits (word_of i.stw1).b10 i.nsoll d.motion.setpoint g.nsoll f.setpoint in
     let faults = code_fits i.fault _ g.fault (ack_fits _ d.faults (f.counter, f.codes)) in
     record {
-      word = either (λ (x : ℕ). x < 65536) (word_of i.stw1).b10 i.stw1 d.word g.stw1 f.word;
+      word = either (λ (x : ℕ). x < 65536) (word_of i.stw1).b10 i.stw1 d.motion.word g.stw1 f.word;
       setpoint = setpoint;
-      effective = effective_fits (cycle_of d i).drive.state (word_used i.stw1 d.word) d.effective (cycle_of d i).drive.setpoint f.effective setpoint;
-      status = status_small _ _ (word_used i.stw1 d.word) i.warning _ _;
+      effective = effective_fits (cycle_of d i).drive.motion.state (word_used i.stw1 d.motion.word) d.motion.effective (cycle_of d i).drive.motion.setpoint f.effective setpoint;
+      status = status_small _ _ (word_used i.stw1 d.motion.word) i.warning _ _;
       actual = g.nist;
       counter = faults.0;
       codes = faults.1;

@@ -16,7 +16,8 @@ use Rattle.versions.specs.Keep.{filled, filled_within}
 use Rattle.versions.proofs.Taken.{filled_length, filled_last}
 use Rattle.versions.proofs.FitLaws.{filled_fits}
 use Rattle.part.specs.Layout.{state_at, versions_at, part_size, versions}
-use Rattle.part.specs.Record.{state_of, drive_of}
+use Rattle.part.specs.Record.{drive_of}
+use Rattle.drive.specs.States.{state_of}
 use Rattle.part.specs.Fresh.{fresh_front, fresh_part}
 use Rattle.part.specs.WellFormed.{limits_fit, fixed_fit, waiting_fits, unused_fit, well_formed}
 use Rattle.part.proofs.FreshLaws.{rows_length}

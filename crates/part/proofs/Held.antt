@@ -24,9 +24,10 @@ use Rattle.catalogue.proofs.Rows.{every_row_lem}
 use Rattle.versions.specs.Keep.{taken}
 use Rattle.versions.proofs.Inner.{taken_alike}
 use Rattle.part.specs.Layout.{state_at, effective_at, length_at, response_at, versions_at, part_size, waiting_length, response_room, waiting, with_response, versions}
-use Rattle.part.specs.Record.{state_of, faults_of, drive_of}
+use Rattle.part.specs.Record.{faults_of, drive_of}
+use Rattle.drive.specs.States.{state_of}
 use Rattle.part.specs.WellFormed.{limits_fit, fixed_fit, waiting_fits, unused_fit}
-use Rattle.part.proofs.Waiting.{byte_written, filled_length}
+use Rattle.part.proofs.StoredResponse.{byte_written, filled_length}
 use Rattle.part.proofs.Kept.{row_passes, row_safe, tested_safe, element_same, limits_same, fixed_same}
 
 -- w bytes from k on stand before the response and its length
@@ -82,12 +83,14 @@ module _ (bs p : List ℕ) where
   pub response_drive : drive_of (with_response bs p) ≡ drive_of p
   unfolding drive_of offset_of find_of rows parameter_bytes
   response_drive = λ j. record {
-    state = state_of (response_state j);
-    word = response_apart 2 (offset_of 10100) refl j;
-    setpoint = ap (λ (x : ℕ). record { 0 = signed_of 2 x }) (response_apart 2 (offset_of 10101) refl) j;
-    effective = ap (λ (x : ℕ). record { 0 = signed_of 2 x }) (response_apart 2 effective_at refl) j;
-    status = response_apart 2 (offset_of 10102) refl j;
-    actual = ap (λ (x : ℕ). record { 0 = signed_of 2 x }) (response_apart 2 (offset_of 10103) refl) j;
+    motion = record {
+      state = state_of (response_state j);
+      word = response_apart 2 (offset_of 10100) refl j;
+      setpoint = ap (λ (x : ℕ). record { 0 = signed_of 2 x }) (response_apart 2 (offset_of 10101) refl) j;
+      effective = ap (λ (x : ℕ). record { 0 = signed_of 2 x }) (response_apart 2 effective_at refl) j;
+      status = response_apart 2 (offset_of 10102) refl j;
+      actual = ap (λ (x : ℕ). record { 0 = signed_of 2 x }) (response_apart 2 (offset_of 10103) refl) j;
+    };
     faults = response_faults j;
   }
 

@@ -22,8 +22,10 @@ use Rattle.drive.specs.Cycle.{cycle_of}
 use Rattle.drive.proofs.Laws.{keeps_length, keeps_proper}
 use Rattle.versions.specs.Fit.{versions_fit}
 use Rattle.part.specs.Layout.{length_at, response_at, versions_at, waiting_length, response_room, waiting, with_response, versions}
-use Rattle.part.specs.Record.{number_of, put_drive, drive_of}
-use Rattle.part.specs.WellFormed.{is_state, waiting_fits, unused_fit, well_formed}
+use Rattle.part.specs.Record.{put_drive, drive_of}
+use Rattle.drive.specs.States.{number_of}
+use Rattle.part.specs.WellFormed.{waiting_fits, unused_fit, well_formed}
+use Rattle.drive.specs.States.{is_state}
 use Rattle.part.proofs.Rule.{form_of, form_is}
 pub use Rattle.part.proofs.Cycled.{InputFits, loaded_fits, cycled_fits}
 pub use Rattle.part.proofs.Stored.{Fits, of_record, drive_length, drive_response, drive_element, stored_is_loaded}
@@ -74,7 +76,7 @@ drive_well_formed axis d p e proper f =
     let kept = drive_response d p f.whole in
     form_is axis (put_drive d p) (record {
       size = drive_length d p f.whole ∙ g.size;
-      state = ap is_state (state_stored d p g.size f) ∙ is_state_lem d.state;
+      state = ap is_state (state_stored d p g.size f) ∙ is_state_lem d.motion.state;
       limits = drive_limits d p f.whole ∙ g.limits;
       fixed = drive_fixed d p f.whole ∙ g.fixed;
       faults = ap proper_faults (faults_stored d p g.size f) ∙ proper;

@@ -23,20 +23,21 @@ use Rattle.catalogue.specs.Table.{rows, find_of, offset_of, parameter_bytes}
 use Rattle.catalogue.specs.declared.Row.{Row}
 use Rattle.catalogue.specs.Element.{element_of, every_row}
 use Rattle.part.specs.Layout.{state_at, effective_at, length_at, part_size}
-use Rattle.part.specs.Record.{number_of, state_of, words_at, faults_of, drive_of, put_drive}
+use Rattle.part.specs.Record.{words_at, faults_of, drive_of, put_drive}
+use Rattle.drive.specs.States.{number_of, state_of}
 use Rattle.part.specs.WellFormed.{limits_fit, fixed_fit}
 use Rattle.part.proofs.Kept.{row_passes, row_safe, tested_safe, element_same, limits_same, fixed_same}
-use Rattle.part.proofs.Waiting.{byte_written}
+use Rattle.part.proofs.StoredResponse.{byte_written}
 use Rattle.part.proofs.Words.{Words, words_put}
 use Rattle.part.proofs.Apart.{Write, puts, puts_length, apart, number_apart, number_stored, drop_ended}
 
 -- a drive record whose fields are of their types: words and speeds of 16 bits, and a whole buffer
 pub record Fits (d : Drive) : Type 0 where
-  pub word : d.word < 65536
-  pub setpoint : Within 2 d.setpoint.0
-  pub effective : Within 2 d.effective.0
-  pub status : d.status < 65536
-  pub actual : Within 2 d.actual.0
+  pub word : d.motion.word < 65536
+  pub setpoint : Within 2 d.motion.setpoint.0
+  pub effective : Within 2 d.motion.effective.0
+  pub status : d.motion.status < 65536
+  pub actual : Within 2 d.motion.actual.0
   pub counter : d.faults.counter < 65536
   pub codes : Words d.faults.buffer
   pub whole : length d.faults.buffer ≡ buffer_codes
@@ -140,31 +141,31 @@ module _ (d : Drive) (p : List ℕ) (long : length p ≡ part_size) (f : Fits d)
   writes = record_writes d f.whole
 
   -- the number of the state is stored
-  pub state_stored : number_at 1 (put_drive d p) state_at ≡ number_of d.state
+  pub state_stored : number_at 1 (put_drive d p) state_at ≡ number_of d.motion.state
   unfolding put_drive offset_of find_of rows parameter_bytes
   state_stored =
-      ap (λ (bs : List ℕ). number_at 1 (puts (take 7 writes) (put p state_at bs)) state_at) (sym (byte_written (number_of d.state) (state_small d.state)))
-      ∙ number_stored (take 7 writes) [] p 1 state_at (number_of d.state) refl (lit≤ tt) (omega (arith, long)) (state_small d.state)
+      ap (λ (bs : List ℕ). number_at 1 (puts (take 7 writes) (put p state_at bs)) state_at) (sym (byte_written (number_of d.motion.state) (state_small d.motion.state)))
+      ∙ number_stored (take 7 writes) [] p 1 state_at (number_of d.motion.state) refl (lit≤ tt) (omega (arith, long)) (state_small d.motion.state)
 
-  word_stored : number_at 2 (put_drive d p) (offset_of 10100) ≡ d.word
+  word_stored : number_at 2 (put_drive d p) (offset_of 10100) ≡ d.motion.word
   unfolding put_drive offset_of find_of rows parameter_bytes
-  word_stored = number_stored (take 6 writes) (drop 7 writes) p 2 (offset_of 10100) d.word refl (lit≤ tt) (omega (arith, long)) f.word
+  word_stored = number_stored (take 6 writes) (drop 7 writes) p 2 (offset_of 10100) d.motion.word refl (lit≤ tt) (omega (arith, long)) f.word
 
-  setpoint_stored : signed_of 2 (number_at 2 (put_drive d p) (offset_of 10101)) ≡ d.setpoint.0
+  setpoint_stored : signed_of 2 (number_at 2 (put_drive d p) (offset_of 10101)) ≡ d.motion.setpoint.0
   unfolding put_drive offset_of find_of rows parameter_bytes
-  setpoint_stored = speed_stored (take 5 writes) (drop 6 writes) p (offset_of 10101) d.setpoint refl (omega (arith, long)) f.setpoint
+  setpoint_stored = speed_stored (take 5 writes) (drop 6 writes) p (offset_of 10101) d.motion.setpoint refl (omega (arith, long)) f.setpoint
 
-  effective_stored : signed_of 2 (number_at 2 (put_drive d p) effective_at) ≡ d.effective.0
+  effective_stored : signed_of 2 (number_at 2 (put_drive d p) effective_at) ≡ d.motion.effective.0
   unfolding put_drive offset_of find_of rows parameter_bytes
-  effective_stored = speed_stored (take 4 writes) (drop 5 writes) p effective_at d.effective refl (omega (arith, long)) f.effective
+  effective_stored = speed_stored (take 4 writes) (drop 5 writes) p effective_at d.motion.effective refl (omega (arith, long)) f.effective
 
-  status_stored : number_at 2 (put_drive d p) (offset_of 10102) ≡ d.status
+  status_stored : number_at 2 (put_drive d p) (offset_of 10102) ≡ d.motion.status
   unfolding put_drive offset_of find_of rows parameter_bytes
-  status_stored = number_stored (take 3 writes) (drop 4 writes) p 2 (offset_of 10102) d.status refl (lit≤ tt) (omega (arith, long)) f.status
+  status_stored = number_stored (take 3 writes) (drop 4 writes) p 2 (offset_of 10102) d.motion.status refl (lit≤ tt) (omega (arith, long)) f.status
 
-  actual_stored : signed_of 2 (number_at 2 (put_drive d p) (offset_of 10103)) ≡ d.actual.0
+  actual_stored : signed_of 2 (number_at 2 (put_drive d p) (offset_of 10103)) ≡ d.motion.actual.0
   unfolding put_drive offset_of find_of rows parameter_bytes
-  actual_stored = speed_stored (take 2 writes) (drop 3 writes) p (offset_of 10103) d.actual refl (omega (arith, long)) f.actual
+  actual_stored = speed_stored (take 2 writes) (drop 3 writes) p (offset_of 10103) d.motion.actual refl (omega (arith, long)) f.actual
 
   counter_stored : number_at 2 (put_drive d p) (offset_of 944) ≡ d.faults.counter
   unfolding put_drive offset_of find_of rows parameter_bytes
@@ -183,11 +184,13 @@ module _ (d : Drive) (p : List ℕ) (long : length p ≡ part_size) (f : Fits d)
   pub stored_is_loaded : drive_of (put_drive d p) ≡ d
   unfolding drive_of
   stored_is_loaded = λ i. record {
-    state = (ap state_of state_stored ∙ state_back d.state) i;
-    word = word_stored i;
-    setpoint = record { 0 = setpoint_stored i };
-    effective = record { 0 = effective_stored i };
-    status = status_stored i;
-    actual = record { 0 = actual_stored i };
+    motion = record {
+      state = (ap state_of state_stored ∙ state_back d.motion.state) i;
+      word = word_stored i;
+      setpoint = record { 0 = setpoint_stored i };
+      effective = record { 0 = effective_stored i };
+      status = status_stored i;
+      actual = record { 0 = actual_stored i };
+    };
     faults = faults_stored i;
   }

@@ -30,8 +30,10 @@ use Rattle.versions.proofs.FitLaws.{dec_eq, Inside, rows_inside, inside_rows, re
 use Rattle.versions.proofs.Inner.{SameElements, taken_alike}
 use Rattle.versions.proofs.Laws.{settings_alike, restored_as_kept}
 use Rattle.part.specs.Layout.{state_at, effective_at, length_at, response_at, versions_at, part_size, waiting_length, response_room, waiting, middle, versions, with_version, with_settings}
-use Rattle.part.specs.Record.{state_of, faults_of, drive_of}
-use Rattle.part.specs.WellFormed.{is_state, limits_fit, fixed_fit, waiting_fits, unused_fit, well_formed}
+use Rattle.part.specs.Record.{faults_of, drive_of}
+use Rattle.drive.specs.States.{state_of}
+use Rattle.part.specs.WellFormed.{limits_fit, fixed_fit, waiting_fits, unused_fit, well_formed}
+use Rattle.drive.specs.States.{is_state}
 use Rattle.part.proofs.Rule.{form_of, form_is}
 use Rattle.part.proofs.Kept.{tested_safe, limits_same, fixed_same, same_asked}
 use Rattle.part.proofs.Laws.{drop_later, same_waits, same_unused, same_versions}
@@ -157,12 +159,14 @@ module _ (p q : List ℕ) (front : take versions_at q ≡ take versions_at p) wh
   pub front_drive : drive_of q ≡ drive_of p
   unfolding drive_of offset_of find_of rows parameter_bytes
   front_drive = λ j. record {
-    state = state_of (front_number p q front 1 state_at refl j);
-    word = front_number p q front 2 (offset_of 10100) refl j;
-    setpoint = ap (λ (x : ℕ). record { 0 = signed_of 2 x }) (front_number p q front 2 (offset_of 10101) refl) j;
-    effective = ap (λ (x : ℕ). record { 0 = signed_of 2 x }) (front_number p q front 2 effective_at refl) j;
-    status = front_number p q front 2 (offset_of 10102) refl j;
-    actual = ap (λ (x : ℕ). record { 0 = signed_of 2 x }) (front_number p q front 2 (offset_of 10103) refl) j;
+    motion = record {
+      state = state_of (front_number p q front 1 state_at refl j);
+      word = front_number p q front 2 (offset_of 10100) refl j;
+      setpoint = ap (λ (x : ℕ). record { 0 = signed_of 2 x }) (front_number p q front 2 (offset_of 10101) refl) j;
+      effective = ap (λ (x : ℕ). record { 0 = signed_of 2 x }) (front_number p q front 2 effective_at refl) j;
+      status = front_number p q front 2 (offset_of 10102) refl j;
+      actual = ap (λ (x : ℕ). record { 0 = signed_of 2 x }) (front_number p q front 2 (offset_of 10103) refl) j;
+    };
     faults = front_faults j;
   }
 

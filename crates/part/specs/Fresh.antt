@@ -8,7 +8,7 @@ use Rattle.catalogue.specs.Table.{rows}
 use Rattle.catalogue.specs.Element.{put_element, fresh_of}
 use Rattle.versions.specs.Keep.{filled_within}
 use Rattle.part.specs.Layout.{state_at, versions_at, part_size}
-use Rattle.part.specs.Record.{number_of}
+use Rattle.drive.specs.States.{number_of}
 
 -- the first n elements of a row at their fresh values
 abbrev pub fresh_elements : Row → ℕ → List ℕ → List ℕ

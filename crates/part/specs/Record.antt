@@ -1,37 +1,16 @@
 -- The drive record of an axis in its part: document 01's state, PNU 944, 947 and 10100 to 10103, and the effective setpoint.
-use Rattle.std.specs.Prelude.{cond, List, [], ◌∷◌, ℕ, eqb}
+use Rattle.std.specs.Prelude.{List, [], ◌∷◌, ℕ}
 use Rattle.codes.specs.Code.{word, write_all}
 use Rattle.codes.specs.Number.{number_at, numbers_at, put, signed_of, bits_of}
-use Rattle.drive.specs.declared.states.State.{State}
-use Rattle.drive.specs.declared.states.State.TheVariants.{S1, S2, S3, S4, S51, S52}
 use Rattle.drive.specs.declared.Drive.{Drive}
 use Rattle.drive.specs.declared.Motion.{Motion}
 use Rattle.drive.specs.declared.faults.Faults.{Faults}
 use Rattle.drive.specs.declared.speed.N2.{N2}
 use Rattle.drive.specs.Faults.{buffer_codes}
+use Rattle.drive.specs.States.{number_of, state_of}
 use Rattle.drive.specs.Motion.{motion_of}
 use Rattle.catalogue.specs.Table.{offset_of}
 use Rattle.part.specs.Layout.{state_at, effective_at}
-
--- the six states, and the number of each, as a cycle answers it and as it stands in a part
-abbrev pub states : List State
-states = S1 ∷ S2 ∷ S3 ∷ S4 ∷ S51 ∷ S52 ∷ []
-
-abbrev pub number_of : State → ℕ
-number_of S1 = 1
-number_of S2 = 2
-number_of S3 = 3
-number_of S4 = 4
-number_of S51 = 51
-number_of S52 = 52
-
--- the state that has a number; S1 where none has
-abbrev pub state_in : List State → ℕ → State
-state_in [] n = S1
-state_in (s ∷ ss) n = cond (eqb n (number_of s)) s (state_in ss n)
-
-unfoldable pub state_of : ℕ → State
-state_of n = state_in states n
 
 -- n words from a place on
 abbrev pub words_at : ℕ → List ℕ → ℕ → List ℕ
@@ -46,12 +25,14 @@ faults_of p = record { counter = number_at 2 p (offset_of 944); buffer = words_a
 unfoldable pub drive_of : List ℕ → Drive
 drive_of p =
     record {
-      state = state_of (number_at 1 p state_at);
-      word = number_at 2 p (offset_of 10100);
-      setpoint = speed_at p (offset_of 10101);
-      effective = speed_at p effective_at;
-      status = number_at 2 p (offset_of 10102);
-      actual = speed_at p (offset_of 10103);
+      motion = record {
+        state = state_of (number_at 1 p state_at);
+        word = number_at 2 p (offset_of 10100);
+        setpoint = speed_at p (offset_of 10101);
+        effective = speed_at p effective_at;
+        status = number_at 2 p (offset_of 10102);
+        actual = speed_at p (offset_of 10103);
+      };
       faults = faults_of p;
     }
 

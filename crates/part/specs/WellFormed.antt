@@ -1,24 +1,21 @@
--- Document 01, "A part is well-formed exactly when": one definition for each part of the rule, in its order. The part on fault
--- situations, "no code stands after a 0 or twice", is `proper_faults` in drive's `Faults`; that on the versions, document 02, R-7, "number 2
--- also tests that they lie inside the limits", is `versions_fit` in the `Fit` of versions. "Its other fields may hold anything of their
--- type": nothing else is asked.
-use Rattle.std.specs.Prelude.{Bool, true, cond, ◌&&◌, ◌||◌, List, map, ℕ, eqb, leb, length, drop}
+-- Document 01, "A part is well-formed exactly when": one definition for each part of the rule, in its order. The first,
+-- "its state is one of the six", is `is_state` in drive's `States`; the part on fault situations, "no code stands after a 0 or twice", is
+-- `proper_faults` in drive's `Faults`; that on the versions, document 02, R-7, "number 2 also tests that they lie inside the limits", is
+-- `versions_fit` in the `Fit` of versions. "Its other fields may hold anything of their type": nothing else is asked.
+use Rattle.std.specs.Prelude.{Bool, true, cond, ◌&&◌, ◌||◌, List, ℕ, eqb, leb, length, drop}
 use Rattle.codes.specs.Code.{readable}
 use Rattle.codes.specs.Number.{number_at}
 use Rattle.blocks.specs.Block.{block_limit}
 use Rattle.blocks.specs.Response.{response}
 use Rattle.blocks.specs.Place.{header_of}
-use Rattle.drive.specs.Faults.{is_in, zeros, proper_faults}
+use Rattle.drive.specs.Faults.{zeros, proper_faults}
+use Rattle.drive.specs.States.{is_state}
 use Rattle.catalogue.specs.declared.Row.{Row}
 use Rattle.catalogue.specs.Table.{rows}
 use Rattle.catalogue.specs.Element.{inside, element_of, fresh_of, every_element, every_row}
 use Rattle.versions.specs.Fit.{versions_fit}
 use Rattle.part.specs.Layout.{state_at, part_size, waiting_length, response_room, waiting, versions}
-use Rattle.part.specs.Record.{states, number_of, faults_of}
-
--- "its state is one of the six"
-abbrev pub is_state : ℕ → Bool
-is_state n = is_in n (map number_of states)
+use Rattle.part.specs.Record.{faults_of}
 
 -- "writable elements are inside their limits"
 unfoldable pub limits_fit : List ℕ → Row → Bool

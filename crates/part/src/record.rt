@@ -1,77 +1,37 @@
 // The drive record of an axis, in and out of its part.
-ghost use Rattle.std.specs.Prelude.{◌≡◌};
+ghost use Rattle.std.specs.Prelude.{◌≡◌, ◌+◌, ◌*◌, ◌^◌, ◌<◌};
 ghost use Rattle.codes.specs.Code.{word, write_all};
 ghost use Rattle.codes.specs.Number.{put};
 ghost use Rattle.drive.specs.Faults.{buffer_codes, is_empty_of};
 ghost use Rattle.drive.specs.Motion.{motion_of};
 ghost use Rattle.catalogue.specs.Table.{offset_of};
-ghost use Rattle.part.specs.Record.{number_of, state_of, words_at, speed_at, faults_of, drive_of, put_word, put_speed, put_faults, put_motion, put_drive};
+ghost use Rattle.part.specs.Record.{words_at, speed_at, faults_of, drive_of, put_word, put_speed, put_faults, put_motion, put_drive};
+ghost use Rattle.drive.specs.States.{number_of, state_of};
 
+use drive::faults::BUFFER;
 use drive::{Drive, Faults, Motion, N2, State};
-
-// The number of a state, as a cycle answers it.
-pub fn number_of(s: State) -> u8
-    ensures { result ≡ number_of s }
-{
-    match s {
-        State::S1 => 1,
-        State::S2 => 2,
-        State::S3 => 3,
-        State::S4 => 4,
-        State::S51 => 51,
-        State::S52 => 52,
-    }
-}
-
-// The state of a number; S1 where it is none.
-fn state_of(n: u8) -> State
-    ensures { result ≡ state_of n }
-{
-    if n == 2 {
-        return State::S2;
-    }
-    if n == 3 {
-        return State::S3;
-    }
-    if n == 4 {
-        return State::S4;
-    }
-    if n == 51 {
-        return State::S51;
-    }
-    if n == 52 {
-        return State::S52;
-    }
-    State::S1
-}
 
 fn speed_at(part: &[u8], at: usize) -> N2
     ensures { result ≡ speed_at part.now at }
 {
-    N2(codes::signed16(codes::word_at(part, at)))
+    N2(codes::word_at(part, at).cast_signed())
 }
 
-// The codes of every fault situation.
-fn codes_of(part: &[u8]) -> [u16; drive::faults::BUFFER]
-    ensures { result ≡ words_at buffer_codes part.now (offset_of 947) }
+// N words, one after the other from `at` on.
+pub(crate) fn words_at<const N: usize>(part: &[u8], at: usize) -> [u16; N]
+    requires { at + N * 2 < 2 ^ 64 }
+    ensures { result ≡ words_at N part.now at }
 {
-    let mut b = [0u16; drive::faults::BUFFER];
-    let mut i: usize = 0;
-    while i < drive::faults::BUFFER {
-        b[i] = codes::word_at(part, catalogue::AT_947 as usize + i * 2);
-        i += 1;
-    }
-    b
+    std::array::from_fn(|i| codes::word_at(part, at + i * 2))
 }
 
 // The faults that a part holds.
 pub fn load_faults(part: &[u8]) -> Faults
     ensures { result ≡ faults_of part.now }
 {
-    let b = codes_of(part);
     Faults {
         counter: codes::word_at(part, catalogue::AT_944 as usize),
-        buffer: b,
+        buffer: words_at(part, catalogue::AT_947 as usize),
     }
 }
 
@@ -86,75 +46,63 @@ pub fn has_no_fault(part: &[u8]) -> bool
 pub fn load_motion(part: &[u8]) -> Motion
     ensures { result ≡ motion_of (drive_of part.now) }
 {
-    let s = state_of(codes::byte_at(part, super::STATE));
-    let setpoint = speed_at(part, catalogue::AT_10101 as usize);
-    let effective = speed_at(part, super::EFFECTIVE);
-    let actual = speed_at(part, catalogue::AT_10103 as usize);
     Motion {
-        state: s,
+        state: State::try_from(codes::byte_at(part, super::STATE)).unwrap_or(State::S1),
         word: codes::word_at(part, catalogue::AT_10100 as usize),
-        setpoint: setpoint,
-        effective: effective,
+        setpoint: speed_at(part, catalogue::AT_10101 as usize),
+        effective: speed_at(part, super::EFFECTIVE),
         status: codes::word_at(part, catalogue::AT_10102 as usize),
-        actual: actual,
+        actual: speed_at(part, catalogue::AT_10103 as usize),
     }
 }
 
 fn put_word(part: &mut [u8], at: usize, x: u16)
     ensures { part.new ≡ put_word at x part.old }
 {
-    codes::put_number(part, at, 2, x as u32);
+    codes::put_number(part, at, 2, u32::from(x));
 }
 
 fn put_speed(part: &mut [u8], at: usize, v: N2)
     ensures { part.new ≡ put_speed at v part.old }
 {
-    put_word(part, at, codes::bits16(v.0));
+    put_word(part, at, v.0.cast_unsigned());
 }
 
 // The codes of every situation; nothing where they do not all fit.
-fn put_codes(part: &mut [u8], b: [u16; drive::faults::BUFFER])
+fn put_codes(part: &mut [u8], b: [u16; BUFFER])
     ensures { part.new ≡ put part.old (offset_of 947) (write_all (word 2).write b) }
 {
     if part.len() < catalogue::AT_965 as usize {
         return;
     }
-    let mut i: usize = 0;
-    while i < drive::faults::BUFFER {
-        put_word(part, catalogue::AT_947 as usize + i * 2, b[i]);
-        i += 1;
+    for (i, code) in b.iter().enumerate() {
+        put_word(part, catalogue::AT_947 as usize + i * 2, *code);
     }
 }
 
 fn put_faults(part: &mut [u8], f: Faults)
     ensures { part.new ≡ put_faults f part.old }
 {
-    let b = f.buffer;
     put_word(part, catalogue::AT_944 as usize, f.counter);
-    put_codes(part, b);
+    put_codes(part, f.buffer);
 }
 
 // The part with another drive record, but for its faults.
 pub fn store_motion(part: &mut [u8], m: Motion)
     ensures { part.new ≡ put_motion m part.old }
 {
-    let s = m.state;
-    let setpoint = m.setpoint;
-    let effective = m.effective;
-    let actual = m.actual;
-    codes::put_number(part, super::STATE, 1, number_of(s) as u32);
+    codes::put_number(part, super::STATE, 1, u32::from(u8::from(m.state)));
     put_word(part, catalogue::AT_10100 as usize, m.word);
-    put_speed(part, catalogue::AT_10101 as usize, setpoint);
-    put_speed(part, super::EFFECTIVE, effective);
+    put_speed(part, catalogue::AT_10101 as usize, m.setpoint);
+    put_speed(part, super::EFFECTIVE, m.effective);
     put_word(part, catalogue::AT_10102 as usize, m.status);
-    put_speed(part, catalogue::AT_10103 as usize, actual);
+    put_speed(part, catalogue::AT_10103 as usize, m.actual);
 }
 
 // The part with another drive record.
 pub fn store(part: &mut [u8], d: Drive)
     ensures { part.new ≡ put_drive d part.old }
 {
-    let f = d.faults;
-    store_motion(part, drive::motion_of(d));
-    put_faults(part, f);
+    store_motion(part, d.motion);
+    put_faults(part, d.faults);
 }

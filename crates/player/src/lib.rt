@@ -5,13 +5,16 @@
 
 mod arguments; // arguments.rt: the files that the arguments name
 mod file; // file.rt: the records of a file
-mod out; // out.rt: lines, collected and written
+mod output; // output.rt: lines, collected and written
 mod record; // record.rt: what is done with a record, and where the run ends
 mod said; // said.rt: what is said on standard error
 mod window; // window.rt: a file, read in pieces
 
-// Bytes of a file that are read and not worked yet, at most.
-const INPUT: usize = 65536;
+use journal::LINE;
+use output::Output;
+use season::COUNTS;
+use station::STATION;
+use window::Window;
 
 // What is done with the journals: a line is written for each record, or they are counted and the counts are written at the end.
 #[derive(Clone, Copy)]
@@ -20,15 +23,52 @@ pub enum Job {
     Report,
 }
 
+// Why the run ends before its journals do: at a record that was bad, or would bring a count to 2^64; or why is said on standard
+// error already.
+#[derive(Clone, Copy)]
+enum Stop {
+    At(season::Stop),
+    Said,
+}
+
+impl From<season::Stop> for Stop {
+    fn from(stop: season::Stop) -> Stop {
+        Stop::At(stop)
+    }
+}
+
+// A job, and what it is done with: the station that the journals are played on, the counts, the memory of a line, in which each is
+// made so that none is cleared for each record, and what is read and written.
+#[derive(Drop)]
+struct Player {
+    job: Job,
+    station: [u8; STATION],
+    totals: [u64; COUNTS],
+    line: [u8; LINE],
+    window: Window,
+    output: Output,
+}
+
+impl Player {
+    // A job that nothing is done of yet.
+    fn new(job: Job) -> Player {
+        let mut station = [0; STATION];
+        station::fresh(&mut station).unwrap();
+        Player {
+            job,
+            station,
+            totals: [0; COUNTS],
+            line: [0; LINE],
+            window: Window::new(),
+            output: Output::new(),
+        }
+    }
+}
+
 // Does a job with the journals that the arguments name. It promises to be safe and to end, and no more: no contract can say what
 // is read or written. What a record does to the station, its line and its counts are promised where it is worked, in `journal` and `season`.
 pub fn run(rt: &HostRuntime, job: Job) {
-    let mut station = [0u8; station::STATION];
-    station::fresh(&mut station);
-    let mut input = [0u8; INPUT];
-    let mut totals = [0u64; season::COUNTS];
-    let mut out = [0u8; out::OUT];
-    let r = arguments::play_arguments(rt, job, &mut station, &mut input, &mut totals, &mut out);
-    let went = r.went;
-    record::finish(rt, job, went, &totals, &out, r.used);
+    let mut player = Player::new(job);
+    let played = player.play_arguments(rt);
+    player.finish(rt, played);
 }

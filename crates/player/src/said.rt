@@ -1,4 +1,5 @@
 // What is said on standard error. Where nobody hears it, nothing else is lost.
+use super::Stop;
 use std::fmt::InlineText;
 use std::io;
 
@@ -6,11 +7,11 @@ use std::io;
 const WORDS: usize = 256;
 
 // Says what failed and why, in the system's words.
-pub(crate) fn fail<R: Eprint>(rt: &R, what: &str, error: io::Error) {
+pub(crate) fn fail<R: Eprint>(rt: &R, what: &str, error: io::Error) -> Stop {
     let text = InlineText::<WORDS>::of(error);
     let words = without_number(text.as_str());
-    let said = eprintln!(rt; "{what}: {words}");
-    let _ = said;
+    let _ = eprintln!(rt; "{what}: {words}");
+    Stop::Said
 }
 
 // An error's text without the system's number, which std puts after it.

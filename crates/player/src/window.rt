@@ -1,127 +1,112 @@
 // A file, read in pieces.
-ghost use Rattle.std.specs.Prelude.{◌≡◌, ◌≤◌, length};
+ghost use Rattle.std.specs.Prelude.{◌≡◌, ◌+◌, ◌≤◌, length};
 
+use super::Stop;
 use super::said::fail;
 use std::io::Read;
 
-// What of a file is read and not worked yet, from `start` to `end`; whether more may come, and whether a read failed.
-#[derive(Clone, Copy)]
+// Bytes of a file that are read and not worked yet, at most.
+const ROOM: usize = 65536;
+
+// What of a file is read and not worked yet, from `start` to `end`, and whether more may come.
+#[derive(Drop)]
 pub(crate) struct Window {
-    pub(crate) start: usize,
-    pub(crate) end: usize,
-    pub(crate) open: bool,
-    pub(crate) failed: bool,
+    bytes: [u8; ROOM],
+    start: usize,
+    end: usize,
+    open: bool,
+    ghost ordered: { start ≤ end },
+    ghost inside: { end ≤ 65536 },
 }
 
-// Nothing of a file is read yet.
-pub(crate) fn unread() -> Window
-    ensures { (result.start ≤ 0) × (result.end ≤ 0) }
-{
-    Window {
-        start: 0,
-        end: 0,
-        open: true,
-        failed: false,
-    }
-}
-
-// Nothing more of a file is to be had.
-fn broken() -> Window
-    ensures { (result.start ≤ 0) × (result.end ≤ 0) }
-{
-    Window {
-        start: 0,
-        end: 0,
-        open: false,
-        failed: true,
-    }
-}
-
-// Moves the bytes from `start` to `end` to the front.
-fn move_to_front(input: &mut [u8], start: usize, end: usize)
-    requires { (start ≤ end) × (end ≤ length input.old) }
-{
-    input.copy_within(start..end, 0);
-}
-
-// Reads once, after what is left. A read that fails is named, and what is left is given up.
-fn read_more<R: Eprint, S: Read>(
-    rt: &R,
-    source: &mut S,
-    name: &str,
-    input: &mut [u8],
-    w: Window,
-) -> Window
-    requires { (w.start ≤ w.end) × (w.end ≤ length input.old) }
-    ensures { (result.start ≤ result.end) × (result.end ≤ length input.old) }
-{
-    move_to_front(input, w.start, w.end);
-    let left = w.end - w.start;
-    match source.read(&mut input[left..]) {
-        Ok(n) => Window {
+impl Window {
+    // Nothing of a file is read yet.
+    pub(crate) fn new() -> Window
+        ensures { (result.start ≡ 0) × (result.end ≡ 0) }
+    {
+        Window {
+            bytes: [0; ROOM],
             start: 0,
-            end: left + n,
-            open: 0 < n,
-            failed: false,
-        },
-        Err(error) => {
-            fail(rt, name, error);
-            broken()
+            end: 0,
+            open: true,
         }
     }
-}
 
-// Whether more may come, and the next record is not all there yet. Where there is room for the longest, its kind byte need not be read.
-pub(crate) fn is_short(input: &[u8], w: Window) -> bool
-    requires { (w.start ≤ w.end) × (w.end ≤ length input.now) }
-{
-    let start = w.start;
-    let left = w.end - start;
-    if !w.open || journal::longest_record() <= left {
-        return false;
+    // Nothing of the next file is read yet.
+    pub(crate) fn begin(&mut self)
+        ensures { (self.new.start ≡ 0) × (self.new.end ≡ 0) }
+    {
+        self.start = 0;
+        self.end = 0;
+        self.open = true;
     }
-    if left == 0 {
-        return true;
+
+    // What is left.
+    fn left(&self) -> &[u8]
+        ensures { self.now.start + length result.now ≡ self.now.end }
+    {
+        &self.bytes[self.start..self.end]
     }
-    left < journal::record_length(input[start])
-}
 
-// Reads until the next record is all there, or the input ends. A read brings a byte at least, so that a record's length is enough.
-pub(crate) fn fill<R: Eprint, S: Read>(
-    rt: &R,
-    source: &mut S,
-    name: &str,
-    input: &mut [u8],
-    w: Window,
-) -> Window
-    requires { (w.start ≤ w.end) × (w.end ≤ length input.old) }
-    ensures { (result.start ≤ result.end) × (result.end ≤ length input.old) }
-{
-    let mut v = w;
-    let mut reads = journal::longest_record();
-    while reads > 0 && is_short(input, v) {
-        v = read_more(rt, source, name, input, v);
-        reads -= 1;
+    // Moves what is left to the front.
+    fn move_to_front(&mut self) {
+        let left = self.end - self.start;
+        self.bytes.copy_within(self.start..self.end, 0);
+        self.start = 0;
+        self.end = left;
     }
-    v
-}
 
-// Where the next record ends, or what is left in place of one.
-pub(crate) fn record_end(input: &[u8], start: usize, end: usize) -> usize
-    requires { (start ≤ end) × (end ≤ length input.now) }
-    ensures { (start ≤ result) × (result ≤ end) }
-{
-    start + journal::next_length(&input[start..end])
-}
+    // Reads once, after what is left. A read that fails is named.
+    fn read_more<R: Eprint, S: Read>(
+        &mut self,
+        rt: &R,
+        source: &mut S,
+        name: &str,
+    ) -> Result<(), Stop> {
+        self.move_to_front();
+        let n = source
+            .read(&mut self.bytes[self.end..])
+            .map_err(|error| fail(rt, name, error))?;
+        self.end += n;
+        self.open = 0 < n;
+        Ok(())
+    }
 
-// The window without its bytes up to a place.
-pub(crate) fn from(w: Window, next: usize) -> Window
-    ensures { (result.start ≡ next) × (result.end ≡ w.end) }
-{
-    Window {
-        start: next,
-        end: w.end,
-        open: w.open,
-        failed: w.failed,
+    // Whether more may come, and the next record is not all there yet. Where there is room for the longest, its kind byte need not be read.
+    pub(crate) fn is_short(&self) -> bool {
+        let left = self.left();
+        if !self.open || journal::longest_record() <= left.len() {
+            return false;
+        }
+        left.first()
+            .is_none_or(|kind| left.len() < journal::record_length(*kind))
+    }
+
+    // Reads until the next record is all there, or the input ends. A read brings a byte at least, so that a record's length is enough.
+    pub(crate) fn fill<R: Eprint, S: Read>(
+        &mut self,
+        rt: &R,
+        source: &mut S,
+        name: &str,
+    ) -> Result<(), Stop> {
+        for _ in 0..journal::longest_record() {
+            if !self.is_short() {
+                break;
+            }
+            self.read_more(rt, source, name)?;
+        }
+        Ok(())
+    }
+
+    // Whether nothing is left.
+    pub(crate) fn is_empty(&self) -> bool {
+        self.left().is_empty()
+    }
+
+    // Goes on after the next record, or what is left in place of one, and answers it.
+    pub(crate) fn next_record(&mut self) -> &[u8] {
+        let start = self.start;
+        self.start += journal::next_length(self.left());
+        &self.bytes[start..self.start]
     }
 }

@@ -16,12 +16,13 @@ use Rattle.station.specs.Isolation.{answer}
 use Rattle.station.proofs.Windows.{length_window}
 use Rattle.station.proofs.Isolation.{ends}
 use Rattle.journal.specs.declared.Acted.{Acted}
-use Rattle.journal.specs.declared.Acted.TheVariants.{Cycle, Frame, Return, Bad}
+use Rattle.journal.specs.declared.Acted.TheVariants.{Cycle, Frame, Return}
 use Rattle.journal.specs.Line.{is_record, call_of}
 use Rattle.journal.specs.History.{acted_by, acted_of}
 use Rattle.journal.proofs.Records.{none_lists}
-use Rattle.season.specs.declared.Turn.{Turn}
-use Rattle.season.specs.declared.Turn.TheVariants.{Counted, Bad as NoRecord, Over}
+use Rattle.std.specs.Prelude.{Option, Some, None, Result, Ok, Err}
+use Rattle.season.specs.declared.Stop.{Stop}
+use Rattle.season.specs.declared.Stop.TheVariants.{Bad, Over}
 use Rattle.season.specs.Season.{answer_counts, farm_counts, with_counts, plus, reaches, Season, added, tally, next, and_then, count, step_of}
 use Rattle.season.specs.Laws.{Limit, Limits, EndsAtOver}
 use Rattle.season.proofs.Sums.{plus_length, plus_at, some_reaches, all_below}
@@ -34,33 +35,33 @@ abbrev pub lent_counts : ℕ → List ℕ → List ℕ
 lent_counts k totals = take ((k - 1) * 10 + 10 - (k - 1) * 10) (drop ((k - 1) * 10) totals)
 
 module _ (k : ℕ) (counts totals : List ℕ) where
-  abbrev pub Comes : Turn → List ℕ → Type 0
+  abbrev pub Comes : Result Unit Stop → List ℕ → Type 0
   Comes last after = (last ≡ (added k counts totals).last) × (after ≡ (added k counts totals).totals)
 
-  pub below : k ≡ 0 → Comes Counted totals
+  pub below : k ≡ 0 → Comes (Ok tt) totals
   unfolding added
   below e = rw e (refl, refl)
 
-  pub above : 16 < k → Comes Counted totals
+  pub above : 16 < k → Comes (Ok tt) totals
   unfolding added
   above h = rw (le-leb 1 k (omega arith), lt-leb k farms h) (refl, refl)
 
   module _ (low : 1 ≤ k) (high : k ≤ 16) where
-    pub over : reaches (plus (lent_counts k totals) counts) ≡ true → Comes Over totals
+    pub over : reaches (plus (lent_counts k totals) counts) ≡ true → Comes (Err Over) totals
     unfolding added window
     over e = rw (le-leb 1 k low, le-leb k farms high, rw (ten k) at e) (refl, refl)
 
     pub within : reaches (plus (lent_counts k totals) counts) ≡ false → (ns : List ℕ) → ns ≡ plus (lent_counts k totals) counts
-        → Comes Counted (put_mid ((k - 1) * 10) ((k - 1) * 10 + 10 - (k - 1) * 10) totals ns)
+        → Comes (Ok tt) (put_mid ((k - 1) * 10) ((k - 1) * 10 + 10 - (k - 1) * 10) totals ns)
     unfolding added window with_window
     within e ns sums = rw (ten k, sums, ten k, le-leb 1 k low, le-leb k farms high, rw (ten k) at e) (refl, refl)
 
 -- what is counted of what a record did
-abbrev pub of_acted : Acted → List ℕ → Season
-of_acted (Cycle k c) totals = added k (answer_counts (to_cycle c)) totals
-of_acted (Frame k f) totals = added k (answer_counts (to_frame f [])) totals
-of_acted (Return k r) totals = added k (answer_counts (to_return r)) totals
-of_acted Bad totals = record { totals = totals; last = NoRecord }
+abbrev pub of_acted : Option Acted → List ℕ → Season
+of_acted (Some (Cycle k c)) totals = added k (answer_counts (to_cycle c)) totals
+of_acted (Some (Frame k f)) totals = added k (answer_counts (to_frame f [])) totals
+of_acted (Some (Return k r)) totals = added k (answer_counts (to_return r)) totals
+of_acted None totals = record { totals = totals; last = Err Bad }
 
 of_acted_lem : (r s totals : List ℕ) (a : Answer) → answer kinds (call_of r) s ≡ a → added (owner (call_of r)) (answer_counts a) totals ≡ of_acted (acted_by (call_of r) a) totals
 of_acted_lem r s totals (to_cycle d) e = refl
@@ -103,15 +104,15 @@ module _ (k : ℕ) (counts totals : List ℕ) (low : 1 ≤ k) (high : k ≤ farm
 pub limits : Limits
 limits k low high counts totals ten size = limit k counts totals low high ten size
 
-abbrev pub is_counted : Turn → Bool
-is_counted Counted = true
-is_counted NoRecord = false
-is_counted Over = false
+abbrev pub is_counted : Result Unit Stop → Bool
+is_counted (Ok done) = true
+is_counted (Err Bad) = false
+is_counted (Err Over) = false
 
 -- the three ways that adding goes
 module _ (k : ℕ) (counts totals : List ℕ) (P : Season → Type 0)
-    (as_was : (l : Turn) → P (record { totals = totals; last = l }))
-    (grown : 1 ≤ k → k ≤ farms → P (record { totals = with_counts k (plus (farm_counts k totals) counts) totals; last = Counted })) where
+    (as_was : (l : Result Unit Stop) → P (record { totals = totals; last = l }))
+    (grown : 1 ≤ k → k ≤ farms → P (record { totals = with_counts k (plus (farm_counts k totals) counts) totals; last = Ok tt })) where
   pub ways : P (added k counts totals)
   unfolding added
   ways =
@@ -119,15 +120,15 @@ module _ (k : ℕ) (counts totals : List ℕ) (P : Season → Type 0)
       (λ is.
       let b = both (leb 1 k) (leb k farms) is in
       rw is
-      (cases (reaches (plus (farm_counts k totals) counts)) (λ over. rw over (as_was Over))
+      (cases (reaches (plus (farm_counts k totals) counts)) (λ over. rw over (as_was (Err Over)))
       (λ fits. rw fits (grown (leb-true 1 k b.0) (leb-true k farms b.1)))))
-      (λ isnt. rw isnt (as_was Counted))
+      (λ isnt. rw isnt (as_was (Ok tt)))
 
 pub ends_at_over : EndsAtOver
 unfolding count tally
 ends_at_over e es totals over =
     ways (owner e.call) (answer_counts e.answer) totals
-    (λ c. c.last ≡ Over → and_then c (count es) ≡ record { totals = totals; last = Over })
-    (λ l at. ap (λ (x : Turn). next x totals (count es)) at)
+    (λ c. c.last ≡ Err Over → and_then c (count es) ≡ record { totals = totals; last = Err Over })
+    (λ l at. ap (λ (x : Result Unit Stop). next x totals (count es)) at)
     (λ low high at. absurd (false≢true (ap is_counted (sym at))))
     over

@@ -17,8 +17,9 @@ use Rattle.station.proofs.Windows.{length_with, window_same, window_before, wind
 use Rattle.station.proofs.Isolation.{ends}
 use Rattle.station.proofs.Owes.{isolated_station}
 use Rattle.journal.specs.History.{event_of, history}
-use Rattle.season.specs.declared.Turn.{Turn}
-use Rattle.season.specs.declared.Turn.TheVariants.{Counted, Bad, Over}
+use Rattle.std.specs.Prelude.{Result, Ok, Err}
+use Rattle.season.specs.declared.Stop.{Stop}
+use Rattle.season.specs.declared.Stop.TheVariants.{Bad, Over}
 use Rattle.season.specs.Season.{answer_counts, farm_counts, with_counts, plus, reaches, Season, added, tally, next, count}
 use Rattle.season.specs.Laws.{summed, CountsSummed, FarmsApart}
 use Rattle.season.proofs.Adds.{inside, sums_ten, is_counted, ways}
@@ -56,28 +57,28 @@ module _ (j : ℕ) (counts totals : List ℕ) (ten : length counts ≡ 10) (size
       beside lo hi (no h) (no m) = absurd (differs (omega arith))
 
   -- its own
-  own : 1 ≤ j → j ≤ farms → (added j counts totals).last ≡ Counted → farm_counts j (added j counts totals).totals ≡ sums
+  own : 1 ≤ j → j ≤ farms → (added j counts totals).last ≡ Ok tt → farm_counts j (added j counts totals).totals ≡ sums
   unfolding added
   own low high e =
       cases (reaches (plus (farm_counts j totals) counts))
       (λ over.
-      let at : (added j counts totals).last ≡ Over = rw (le-leb 1 j low, le-leb j farms high, over) in
+      let at : (added j counts totals).last ≡ Err Over = rw (le-leb 1 j low, le-leb j farms high, over) in
       absurd (false≢true (ap is_counted (sym at ∙ e))))
       (λ fits. rw (le-leb 1 j low, le-leb j farms high, fits)
       (window_same ((j - 1) * 10) 10 sums totals (inside j totals low high size) (long low high)))
 
 -- what came to its end went on
-went_on : (l : Turn) (totals : List ℕ) (more : List ℕ → Season) → (next l totals more).last ≡ Counted → (l ≡ Counted) × (next l totals more ≡ more totals)
-went_on Counted totals more e = (refl, refl)
-went_on Bad totals more e = absurd (false≢true (ap is_counted e))
-went_on Over totals more e = absurd (false≢true (ap is_counted e))
+went_on : (l : Result Unit Stop) (totals : List ℕ) (more : List ℕ → Season) → (next l totals more).last ≡ Ok tt → (l ≡ Ok tt) × (next l totals more ≡ more totals)
+went_on (Ok done) totals more e = (refl, refl)
+went_on (Err Bad) totals more e = absurd (false≢true (ap is_counted e))
+went_on (Err Over) totals more e = absurd (false≢true (ap is_counted e))
 
 module _ (k : ℕ) (low : 1 ≤ k) (high : k ≤ farms) where
   abbrev answers_of : List Call → List ℕ → List Answer
   answers_of cs s = answers_to (machine kinds) (λ c. eqb (owner c) k) cs (run_answers (machine kinds) cs s)
 
   -- one turn, of the farm's own call and of another's
-  tally_own : (c : Call) (s totals : List ℕ) → length totals ≡ farms * 10 → owner c ≡ k → (tally (event_of c s) totals).last ≡ Counted
+  tally_own : (c : Call) (s totals : List ℕ) → length totals ≡ farms * 10 → owner c ≡ k → (tally (event_of c s) totals).last ≡ Ok tt
       → farm_counts k (tally (event_of c s) totals).totals ≡ plus (farm_counts k totals) (answer_counts (answer kinds c s))
   unfolding tally
   tally_own c s totals size mine e =
@@ -94,7 +95,7 @@ module _ (k : ℕ) (low : 1 ≤ k) (high : k ≤ farms) where
   tally_size c s totals size = same_size (owner c) (answer_counts (answer kinds c s)) totals (ten_counts (answer kinds c s)) size
 
   -- so the farm's counts are its answers, summed
-  folded : (cs : List Call) (s totals : List ℕ) → length totals ≡ farms * 10 → (count (history cs s) totals).last ≡ Counted
+  folded : (cs : List Call) (s totals : List ℕ) → length totals ≡ farms * 10 → (count (history cs s) totals).last ≡ Ok tt
       → farm_counts k (count (history cs s) totals).totals ≡ summed (answers_of cs s) (farm_counts k totals)
   unfolding count history answers_to run_answers summed
   folded [] s totals size e = refl

@@ -6,7 +6,7 @@ use native.Mathlib.Omega.{arith}
 use lib.Dec.{eqb, lit≤}
 use lib.ListN.{length, get_or, take, drop, replicate}
 use Rattle.station.specs.Parts.{window, station_size, fresh_station}
-use Rattle.station.specs.Cycle.{Sent}
+use Rattle.station.specs.declared.Sent.{Sent}
 use Rattle.station.specs.Runs.{calls_by}
 use Rattle.station.specs.Isolation.{answer}
 use Rattle.station.specs.Calls.{Call, cycle, frame, exchange, number_in, kinds}
@@ -14,7 +14,8 @@ use Rattle.station.specs.Worked.{marks_frame, worked_calls}
 use Rattle.journal.specs.Line.{next_record, past_record, is_record}
 use Rattle.journal.specs.History.{Event, history}
 use Rattle.journal.specs.Laws.{pieces}
-use Rattle.season.specs.declared.Turn.TheVariants.{Counted, Bad, Over}
+use Rattle.std.specs.Prelude.{Ok, Err}
+use Rattle.season.specs.declared.Stop.TheVariants.{Bad, Over}
 use Rattle.season.specs.Season.{one, answer_counts, farm_counts, Season, added, tally, count, season_from, step_of}
 use Rattle.season.specs.Report.{farm_line, last_line, report_text, report_of}
 use Rattle.season.specs.Laws.{stepped, sum, Tallied, frame_with, return_with}
@@ -24,28 +25,28 @@ use Rattle.season.proofs.Farms.{farms_apart}
 use Rattle.season.proofs.Worked.{one_state, counts_alike, worked_season, worked_counts, worked_lines}
 
 -- CountsWhole: a kind that is none ends the season with the totals so far, whatever follows it
-bad_ends : (s totals : List ℕ) → Path Season (season_from (0x00 ∷ 0x01 ∷ []) s totals) (record { totals = totals; last = Bad })
+bad_ends : (s totals : List ℕ) → Path Season (season_from (0x00 ∷ 0x01 ∷ []) s totals) (record { totals = totals; last = Err Bad })
 unfolding stepped step_of pieces next_record past_record is_record
 bad_ends s totals = sym (counts_whole (0x00 ∷ 0x01 ∷ []) s totals)
 
 -- ReportsWhole: a journal of no record
-no_record : report_of [] ≡ report_text (replicate 160 0) Counted
+no_record : report_of [] ≡ report_text (replicate 160 0) (Ok tt)
 unfolding stepped pieces
 no_record = sym (reports_whole [])
 
 -- EndsAtOver: what comes after it does not count
-nothing_after : (d e : Event) (totals : List ℕ) → (tally d totals).last ≡ Over → (count (d ∷ e ∷ []) totals).totals ≡ totals
+nothing_after : (d e : Event) (totals : List ℕ) → (tally d totals).last ≡ Err Over → (count (d ∷ e ∷ []) totals).totals ≡ totals
 nothing_after d e totals over = ap (λ (c : Season). c.totals) (ends_at_over d (e ∷ []) totals over)
 
 -- Limits: both sides, in the first place of the first farm and in the last of the last
 module _ (counts totals : List ℕ) (ten : length counts ≡ 10) (size : length totals ≡ 160) where
-  fits_1 : ((i : ℕ) → i < 10 → get_or (farm_counts 1 totals) i 0 + get_or counts i 0 < 2 ^ 64) → (added 1 counts totals).last ≡ Counted
+  fits_1 : ((i : ℕ) → i < 10 → get_or (farm_counts 1 totals) i 0 + get_or counts i 0 < 2 ^ 64) → (added 1 counts totals).last ≡ Ok tt
   fits_1 small = (limits 1 (lit≤ tt) (lit≤ tt) counts totals ten size).below small
 
-  fits_16 : ((i : ℕ) → i < 10 → get_or (farm_counts 16 totals) i 0 + get_or counts i 0 < 2 ^ 64) → (added 16 counts totals).last ≡ Counted
+  fits_16 : ((i : ℕ) → i < 10 → get_or (farm_counts 16 totals) i 0 + get_or counts i 0 < 2 ^ 64) → (added 16 counts totals).last ≡ Ok tt
   fits_16 small = (limits 16 (lit≤ tt) (lit≤ tt) counts totals ten size).below small
 
-  over_1 : 2 ^ 64 ≤ get_or (farm_counts 1 totals) 0 0 + get_or counts 0 0 → (added 1 counts totals).last ≡ Over
+  over_1 : 2 ^ 64 ≤ get_or (farm_counts 1 totals) 0 0 + get_or counts 0 0 → (added 1 counts totals).last ≡ Err Over
   over_1 big = ap (λ (c : Season). c.last) ((limits 1 (lit≤ tt) (lit≤ tt) counts totals ten size).reached 0 (omega arith) big)
 
   over_16 : 2 ^ 64 ≤ get_or (farm_counts 16 totals) 9 0 + get_or counts 9 0 → (added 16 counts totals).totals ≡ totals
@@ -113,5 +114,5 @@ last_three = ap (drop 8) worked_counts
 -- WorkedLines: the one ends in 21, the other is all of it
 two_lines :
     (drop 22 (farm_line 2 (replicate 10 9 ++ (1 ∷ 1 ∷ 1 ∷ 1 ∷ 0 ∷ 0 ∷ 1 ∷ 0 ∷ 0 ∷ 21 ∷ []) ++ replicate 140 9)) ≡ 0x32 ∷ 0x31 ∷ 0x0A ∷ [])
-    × (last_line Over ≡ 0x78 ∷ 0x20 ∷ 0x31 ∷ 0x33 ∷ 0x0A ∷ [])
+    × (last_line (Err Over) ≡ 0x78 ∷ 0x20 ∷ 0x31 ∷ 0x33 ∷ 0x0A ∷ [])
 two_lines = (ap (drop 22) worked_lines.farm, worked_lines.over)

@@ -12,23 +12,24 @@ use Rattle.journal.specs.Line.{next_record, past_record, is_record, call_of, rec
 use Rattle.journal.specs.History.{parted_in, parted, event_of, history, calls}
 use Rattle.journal.specs.Laws.{pieces_in, pieces}
 use Rattle.journal.proofs.Whole.{none, by_pieces}
-use Rattle.season.specs.declared.Turn.{Turn}
-use Rattle.season.specs.declared.Turn.TheVariants.{Counted, Bad, Over}
+use Rattle.std.specs.Prelude.{Result, Ok, Err}
+use Rattle.season.specs.declared.Stop.{Stop}
+use Rattle.season.specs.declared.Stop.TheVariants.{Bad, Over}
 use Rattle.season.specs.Season.{Season, tally, next, and_then, count, ending, season_from, season_of, step_of}
 use Rattle.season.specs.Laws.{stepped, CountsWhole, ReportsWhole}
 use Rattle.season.specs.Report.{report_text}
 
 -- one after the other, however they are bracketed
-next_next : (l : Turn) (totals : List ℕ) (f g : List ℕ → Season) → and_then (next l totals f) g ≡ next l totals (λ u. and_then (f u) g)
-next_next Counted totals f g = refl
-next_next Bad totals f g = refl
-next_next Over totals f g = refl
+next_next : (l : Result Unit Stop) (totals : List ℕ) (f g : List ℕ → Season) → and_then (next l totals f) g ≡ next l totals (λ u. and_then (f u) g)
+next_next (Ok done) totals f g = refl
+next_next (Err Bad) totals f g = refl
+next_next (Err Over) totals f g = refl
 
 -- the same goes on alike
-next_same : (l : Turn) (totals : List ℕ) (f g : List ℕ → Season) → ((u : List ℕ) → f u ≡ g u) → next l totals f ≡ next l totals g
-next_same Counted totals f g e = e totals
-next_same Bad totals f g e = refl
-next_same Over totals f g e = refl
+next_same : (l : Result Unit Stop) (totals : List ℕ) (f g : List ℕ → Season) → ((u : List ℕ) → f u ≡ g u) → next l totals f ≡ next l totals g
+next_same (Ok done) totals f g e = e totals
+next_same (Err Bad) totals f g e = refl
+next_same (Err Over) totals f g e = refl
 
 -- pieces counted, by at most n of them, over any totals
 abbrev Counts : ℕ → List ℕ → List ℕ → Type 0

@@ -12,7 +12,8 @@ use Rattle.drive.specs.declared.Output.{Output}
 use Rattle.drive.specs.Cycle.{cycle_of}
 use Rattle.part.specs.Record.{drive_of}
 use Rattle.station.specs.Parts.{farms, station_refusal, part_of, window, with_window, fresh_station}
-use Rattle.station.specs.Cycle.{Sent, input_of, cycle_refusal, cycled, cycle_answer}
+use Rattle.station.specs.declared.Sent.{Sent}
+use Rattle.station.specs.Cycle.{input_of, cycle_refusal, cycled, cycle_answer}
 use Rattle.station.specs.Frame.{frame_answer}
 use Rattle.station.specs.Exchange.{FrameDone}
 use Rattle.station.specs.Runs.{run_answers}

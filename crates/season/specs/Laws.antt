@@ -1,7 +1,7 @@
 -- What callers may cite of a season in place of its text: from document 02, R-1, and demand 2. Each is a statement here and a proof in proofs/.
-use Rattle.std.specs.Prelude.{◌≡◌, Bool, true, false, List, [], ◌∷◌, ◌++◌, map, ℕ, ◌+◌, ◌*◌, ◌^◌, ◌≤◌, ◌<◌, eqb, pos, length, get_or, take, replicate}
+use Rattle.std.specs.Prelude.{◌≡◌, Bool, true, false, List, [], ◌∷◌, ◌++◌, map, ℕ, ◌+◌, ◌*◌, ◌^◌, ◌≤◌, ◌<◌, eqb, pos, length, get_or, take, replicate, Ok, Err}
 use Rattle.station.specs.Parts.{farms, station_size, part_of, fresh_parts, fresh_station}
-use Rattle.station.specs.Cycle.{Sent}
+use Rattle.station.specs.declared.Sent.{Sent}
 use Rattle.station.specs.Runs.{calls_by, run_answers, answers_to}
 use Rattle.station.specs.Isolation.{answer, machine}
 use Rattle.station.specs.Frame.{is_read}
@@ -10,13 +10,13 @@ use Rattle.station.specs.Worked.{worked_calls}
 use Rattle.journal.specs.Line.{record_after}
 use Rattle.journal.specs.History.{Event, history}
 use Rattle.journal.specs.Laws.{pieces}
-use Rattle.season.specs.declared.Turn.TheVariants.{Counted, Over}
+use Rattle.season.specs.declared.Stop.TheVariants.{Over}
 use Rattle.season.specs.Season.{one, answer_counts, farm_counts, plus, Season, added, tally, and_then, count, season_from, step_of}
 use Rattle.season.specs.Report.{farm_line, last_line, report_text, report_of}
 
 -- A program counts a journal by the piece: what `step` counts of pieces one after the other, up to the first that does not count,
 unfoldable pub stepped : List (List ℕ) → List ℕ → List ℕ → Season
-stepped [] s totals = record { totals = totals; last = Counted }
+stepped [] s totals = record { totals = totals; last = Ok tt }
 stepped (r ∷ rs) s totals = and_then (step_of r s totals) (stepped rs (record_after r s))
 
 -- is what the whole journal counts; and from a fresh station and no counts, as text, the whole report
@@ -29,13 +29,13 @@ ReportsWhole = (bs : List ℕ) → let c = stepped (pieces bs) (fresh_parts farm
 -- "13, a count would reach 2^64; it ends with the totals before that record", whatever comes after it
 abbrev pub EndsAtOver : Type 0
 EndsAtOver =
-    (e : Event) (es : List Event) (totals : List ℕ) → (tally e totals).last ≡ Over
-    → count (e ∷ es) totals ≡ record { totals = totals; last = Over }
+    (e : Event) (es : List Event) (totals : List ℕ) → (tally e totals).last ≡ Err Over
+    → count (e ∷ es) totals ≡ record { totals = totals; last = Err Over }
 
 -- it comes where one of the farm's ten sums reaches 2^64, whichever one, and nowhere else
 pub record Limit (k : ℕ) (counts totals : List ℕ) : Type 0 where
-  pub below : ((i : ℕ) → i < 10 → get_or (farm_counts k totals) i 0 + get_or counts i 0 < 2 ^ 64) → (added k counts totals).last ≡ Counted
-  pub reached : (i : ℕ) → i < 10 → 2 ^ 64 ≤ get_or (farm_counts k totals) i 0 + get_or counts i 0 → added k counts totals ≡ record { totals = totals; last = Over }
+  pub below : ((i : ℕ) → i < 10 → get_or (farm_counts k totals) i 0 + get_or counts i 0 < 2 ^ 64) → (added k counts totals).last ≡ Ok tt
+  pub reached : (i : ℕ) → i < 10 → 2 ^ 64 ≤ get_or (farm_counts k totals) i 0 + get_or counts i 0 → added k counts totals ≡ record { totals = totals; last = Err Over }
 
 abbrev pub Limits : Type 0
 Limits = (k : ℕ) → 1 ≤ k → k ≤ farms → (counts totals : List ℕ) → length counts ≡ 10 → length totals ≡ farms * 10 → Limit k counts totals
@@ -64,7 +64,7 @@ summed (a ∷ more) counts = summed more (plus counts (answer_counts a))
 abbrev pub CountsSummed : Type 0
 CountsSummed =
     (k : ℕ) → 1 ≤ k → k ≤ farms → (cs : List Call) (s totals : List ℕ) → length totals ≡ farms * 10
-    → (count (history cs s) totals).last ≡ Counted
+    → (count (history cs s) totals).last ≡ Ok tt
     → farm_counts k (count (history cs s) totals).totals
     ≡ summed (answers_to (machine kinds) (λ c. eqb (owner c) k) cs (run_answers (machine kinds) cs s)) (farm_counts k totals)
 
@@ -76,7 +76,7 @@ calls_of k cs = calls_by (machine kinds) (λ c. eqb (owner c) k) cs
 pub record Tallied (cs : List Call) (s totals : List ℕ) : Type 0 where
   pub station : length s ≡ station_size
   pub size : length totals ≡ farms * 10
-  pub all : (count (history cs s) totals).last ≡ Counted
+  pub all : (count (history cs s) totals).last ≡ Ok tt
 
 -- Demand 2, of the counts: runs that agree on one farm's part, counts and calls give it the same counts, whatever the others do
 abbrev pub FarmsApart : Type 0
@@ -94,7 +94,7 @@ WorkedSeason =
     → count (history (map (λ w. w.call) worked_calls) (fresh_station s)) (replicate (farms * 10) 0)
     ≡ record {
       totals = (1 ∷ 1 ∷ 1 ∷ 1 ∷ 0 ∷ 0 ∷ 1 ∷ 0 ∷ 0 ∷ 0 ∷ []) ++ (0 ∷ 0 ∷ 0 ∷ 0 ∷ 0 ∷ 0 ∷ 0 ∷ 0 ∷ 1 ∷ 0 ∷ []) ++ replicate 140 0;
-      last = Counted;
+      last = Ok tt;
     }
 
 -- each kind of answer in its place: a cycle that ended in a state, acknowledged or entered; a frame, and a going back (R-7), with its
@@ -143,4 +143,4 @@ pub record WorkedLines : Type 0 where
       farm_line 2 (replicate 10 9 ++ (1 ∷ 1 ∷ 1 ∷ 1 ∷ 0 ∷ 0 ∷ 1 ∷ 0 ∷ 0 ∷ 21 ∷ []) ++ replicate 140 9)
       ≡ 0x72 ∷ 0x20 ∷ 0x32 ∷ 0x20 ∷ 0x31 ∷ 0x20 ∷ 0x31 ∷ 0x20 ∷ 0x31 ∷ 0x20 ∷ 0x31 ∷ 0x20 ∷ 0x30 ∷ 0x20 ∷ 0x30 ∷ 0x20 ∷ 0x31
       ∷ 0x20 ∷ 0x30 ∷ 0x20 ∷ 0x30 ∷ 0x20 ∷ 0x32 ∷ 0x31 ∷ 0x0A ∷ []
-  pub over : last_line Over ≡ 0x78 ∷ 0x20 ∷ 0x31 ∷ 0x33 ∷ 0x0A ∷ []
+  pub over : last_line (Err Over) ≡ 0x78 ∷ 0x20 ∷ 0x31 ∷ 0x33 ∷ 0x0A ∷ []

@@ -1,10 +1,10 @@
 -- Document 02, R-1: "Sixteen lines in farm order: `r`, the farm and the ten counts as listed, in decimal, each below 2^64."
-use Rattle.std.specs.Prelude.{List, [], ◌∷◌, ◌++◌, ℕ, zero, suc}
+use Rattle.std.specs.Prelude.{List, [], ◌∷◌, ◌++◌, ℕ, zero, suc, Result, Ok, Err}
 use Rattle.station.specs.Parts.{farms}
 use Rattle.journal.specs.Text.{decimal}
 use Rattle.journal.specs.Line.{space, bad_line}
-use Rattle.season.specs.declared.Turn.{Turn}
-use Rattle.season.specs.declared.Turn.TheVariants.{Counted, Bad, Over}
+use Rattle.season.specs.declared.Stop.{Stop}
+use Rattle.season.specs.declared.Stop.TheVariants.{Bad, Over}
 use Rattle.season.specs.Season.{farm_counts, season_of}
 
 -- numbers in decimal, each after a space
@@ -23,12 +23,12 @@ lines_to (suc k) totals = lines_to k totals ++ farm_line (suc k) totals
 
 -- "A `bad` record ends the report with the totals so far and that word. Refusals: 13, a count would reach 2^64; it ends with the
 -- totals before that record and `x 13`."
-abbrev pub last_line : Turn → List ℕ
-last_line Counted = []
-last_line Bad = bad_line
-last_line Over = 0x78 ∷ spaced (13 ∷ []) ++ (0x0A ∷ [])
+abbrev pub last_line : Result Unit Stop → List ℕ
+last_line (Ok done) = []
+last_line (Err Bad) = bad_line
+last_line (Err Over) = 0x78 ∷ spaced (13 ∷ []) ++ (0x0A ∷ [])
 
-unfoldable pub report_text : List ℕ → Turn → List ℕ
+unfoldable pub report_text : List ℕ → Result Unit Stop → List ℕ
 report_text totals last = lines_to farms totals ++ last_line last
 
 -- the whole report of a journal

@@ -12,10 +12,9 @@ mod totals; // totals.rt: what a record counts, added to the totals
 
 pub use report::put_report;
 
-// How a record, and so a report, came out.
-#[derive(Clone, Copy)]
-pub enum Turn {
-    Counted,
+// Why a record, and so a report, ended without being counted.
+#[derive(Clone, Copy, Debug, PartialEq, Eq)]
+pub enum Stop {
     // no record
     Bad,
     // number 13: a count would reach 2^64
@@ -32,16 +31,15 @@ pub const COUNTS: usize = station::FARMS * EACH;
 pub const TEXT: usize = 3733;
 
 // Plays a record on the station and counts what it did. Number 13 leaves the totals as they were; the station is as the record left it.
-pub fn step(station: &mut [u8], bytes: &[u8], totals: &mut [u64; COUNTS]) -> Turn
+pub fn step(station: &mut [u8], bytes: &[u8], totals: &mut [u64; COUNTS]) -> Result<(), Stop>
     ensures value { result ≡ (step_of bytes.now station.old totals.old).last }
     ensures totals_after { totals.new ≡ (step_of bytes.now station.old totals.old).totals }
     ensures station_after { station.new ≡ record_after bytes.now station.old }
 {
-    let acted = journal::act(station, bytes);
-    match acted {
-        Acted::Cycle(axis, c) => totals::add(totals, axis, &totals::of_cycle(c)),
-        Acted::Frame(farm, f) => totals::add(totals, farm, &totals::of_frame(f)),
-        Acted::Return(farm, r) => totals::add(totals, farm, &totals::of_return(r)),
-        Acted::Bad => Turn::Bad,
+    match journal::act(station, bytes) {
+        Some(Acted::Cycle(axis, c)) => totals::add(totals, axis, &totals::of_cycle(c)),
+        Some(Acted::Frame(farm, f)) => totals::add(totals, farm, &totals::of_frame(f)),
+        Some(Acted::Return(farm, r)) => totals::add(totals, farm, &totals::of_return(r)),
+        None => Err(Stop::Bad),
     }
 }

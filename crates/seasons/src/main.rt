@@ -1,44 +1,32 @@
 // Records counted over given totals, where no journal is long enough to bring them: each of a farm's ten counts to 2^64 - 1, and to 2^64.
 #![tactic(auto)]
 
-use season::{COUNTS, EACH, Turn};
+use season::{COUNTS, EACH, Stop};
 use std::io;
 
 type Station = [u8; station::STATION];
 
 type Totals = [u64; COUNTS];
 
-fn print(rt: &impl Print, text: &str) -> io::Result<()> {
-    rt.print(text)
-}
-
 // A record of a cycle.
 fn cycle(axis: u8, stw1: u16, fault: u8) -> [u8; 11] {
-    let mut record = [0u8; 11];
-    record[0] = 1;
-    record[1] = axis;
-    record[3] = (stw1 / 256) as u8;
-    record[4] = (stw1 % 256) as u8;
-    record[10] = fault;
-    record
+    let [high, low] = stw1.to_be_bytes();
+    [1, axis, 0, high, low, 0, 0, 0, 0, 0, fault]
 }
 
 // Farm 1's record of a write that sends marks 1000 and 2000 to an axis.
 fn marks(axis: u8) -> [u8; 247] {
-    let mut record = [0u8; 247];
-    codes::put_bytes(&mut record, 0, b"\x02\x01\x14\x5F\x00\x2F\x10\x07\x02");
+    let write =
+        b"\x02\x01\x14\x5F\x00\x2F\x10\x07\x02\x01\x01\x10\x02\x75\x31\x00\x00\x42\x02\x03\xE8\x07\xD0";
+    let mut record = [0; 247];
+    record[..write.len()].copy_from_slice(write);
     record[9] = axis;
-    codes::put_bytes(
-        &mut record,
-        10,
-        b"\x01\x10\x02\x75\x31\x00\x00\x42\x02\x03\xE8\x07\xD0",
-    );
     record
 }
 
 fn fresh() -> Station {
-    let mut memory = [0u8; station::STATION];
-    station::fresh(&mut memory);
+    let mut memory = [0; station::STATION];
+    station::fresh(&mut memory).unwrap();
     memory
 }
 
@@ -60,11 +48,9 @@ fn after(memory: Station, stw1: u16, fault: u8) -> Station {
 
 // All counts 0 but farm 1's in one place, which is so many below 2^64.
 fn all_but(place: usize, below: u64) -> Totals {
-    let mut totals = [0u64; COUNTS];
+    let mut totals = [0; COUNTS];
     if place < EACH {
-        if 0 < below {
-            totals[place] = u64::MAX - (below - 1);
-        }
+        totals[place] = below.wrapping_neg();
     }
     totals
 }
@@ -72,17 +58,15 @@ fn all_but(place: usize, below: u64) -> Totals {
 // Every count of every farm but the first one as high as it goes.
 fn others_full() -> Totals {
     let mut totals = [u64::MAX; COUNTS];
-    for i in 0..EACH {
-        totals[i] = 0;
-    }
+    totals[..EACH].fill(0);
     totals
 }
 
-fn print_turn(rt: &impl Print, turn: Turn) -> io::Result<()> {
+fn print_turn(rt: &impl Print, turn: Result<(), Stop>) -> io::Result<()> {
     match turn {
-        Turn::Counted => print(rt, ": counted:"),
-        Turn::Bad => print(rt, ": bad:"),
-        Turn::Over => print(rt, ": x 13:"),
+        Ok(()) => rt.print(": counted:"),
+        Err(Stop::Bad) => rt.print(": bad:"),
+        Err(Stop::Over) => rt.print(": x 13:"),
     }
 }
 
@@ -95,13 +79,12 @@ fn count(
     mut totals: Totals,
 ) -> io::Result<()> {
     let turn = season::step(&mut memory, record, &mut totals);
-    print(rt, label)?;
+    rt.print(label)?;
     print_turn(rt, turn)?;
-    for i in 0..EACH {
-        print(rt, " ")?;
-        rt.print(totals[i])?;
+    for total in &totals[..EACH] {
+        print!(rt; " {total}")?;
     }
-    print(rt, "\n")
+    rt.print("\n")
 }
 
 // Counts a record that adds so many in a place of farm 1: where that comes to 2^64 - 1, and where it comes to 2^64.
@@ -113,26 +96,27 @@ fn both(
     place: usize,
     adds: u8,
 ) -> io::Result<()> {
-    print(rt, label)?;
-    count(
-        rt,
-        " to 2^64 - 1",
-        memory,
-        record,
-        all_but(place, adds as u64 + 1),
-    )?;
-    print(rt, label)?;
-    count(rt, " to 2^64", memory, record, all_but(place, adds as u64))
+    let adds = u64::from(adds);
+    for (end, below) in [(" to 2^64 - 1", adds + 1), (" to 2^64", adds)] {
+        rt.print(label)?;
+        count(rt, end, memory, record, all_but(place, below))?;
+    }
+    Ok(())
 }
 
 // A cycle that ends in each state. The one that ends in S4 enters it.
 fn states(rt: &impl Print, memory: Station, ready: Station, running: Station) -> io::Result<()> {
-    both(rt, "S1", memory, &cycle(1, 0x0000, 0), 0, 1)?;
-    both(rt, "S2", memory, &cycle(1, 0x047E, 0), 1, 1)?;
-    both(rt, "S3", running, &cycle(1, 0x0477, 0), 2, 1)?;
-    both(rt, "S4", ready, &cycle(1, 0x047F, 0), 3, 1)?;
-    both(rt, "S51", running, &cycle(1, 0x047E, 0), 4, 1)?;
-    both(rt, "S52", running, &cycle(1, 0x047B, 0), 5, 1)
+    for (place, label, before, stw1) in [
+        (0, "S1", &memory, 0x0000),
+        (1, "S2", &memory, 0x047E),
+        (2, "S3", &running, 0x0477),
+        (3, "S4", &ready, 0x047F),
+        (4, "S51", &running, 0x047E),
+        (5, "S52", &running, 0x047B),
+    ] {
+        both(rt, label, *before, &cycle(1, stw1, 0), place, 1)?;
+    }
+    Ok(())
 }
 
 // An entry into S4; an acknowledge, which ends in S2; frames; and a going back.

@@ -14,7 +14,8 @@ use Rattle.part.specs.Record.{drive_of, put_drive}
 use Rattle.part.specs.WellFormed.{well_formed}
 use Rattle.part.proofs.Laws.{cycle_well_formed, cycle_keeps_waiting}
 use Rattle.part.proofs.Laws.{cycle_keeps_versions}
-use Rattle.station.specs.Cycle.{Sent, input_of, cycle_tests, cycle_refusal, refused_cycle, cycle_answer, cycle_part}
+use Rattle.station.specs.declared.Sent.{Sent}
+use Rattle.station.specs.Cycle.{input_of, cycle_tests, cycle_refusal, refused_cycle, cycle_answer, cycle_part}
 use Rattle.station.specs.Calls.{cycle, to_cycle, kind_of}
 use Rattle.station.specs.Owed.{Owes}
 use Rattle.station.specs.Laws.{CycleKeepsWaiting}

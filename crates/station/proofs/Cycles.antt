@@ -15,7 +15,8 @@ use Rattle.part.specs.WellFormed.{well_formed}
 use Rattle.part.proofs.Rule.{form_of}
 use Rattle.part.proofs.Laws.{motion_stored}
 use Rattle.station.specs.Laws.{TellsWhatItDid}
-use Rattle.station.specs.Cycle.{Sent, input_of, cycle_refusal, refused_cycle, cycled, cycle_answer, cycle_part}
+use Rattle.station.specs.declared.Sent.{Sent}
+use Rattle.station.specs.Cycle.{input_of, cycle_refusal, refused_cycle, cycled, cycle_answer, cycle_part}
 
 -- the two halves of a drive record that are read from a part are the whole of it
 pub loaded_whole : (p : List ℕ) → with_faults (motion_of (drive_of p)) (faults_of p) ≡ drive_of p

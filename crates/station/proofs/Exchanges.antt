@@ -2,10 +2,8 @@
 use mathlib.Core.Path.{◌≡◌, refl, sym, ap, ap₂, ◌∙◌}
 use mathlib.Core.Bool.{true, false}
 use mathlib.Core.List.{List, []}
-use Prim.Native.Nat.{ℕ, ◌+◌, ◌-◌, ◌*◌, ◌≤◌}
-use native.Mathlib.Omega.{arith}
-use lib.ListN.{length, take}
-use lib.Seq.{take_all}
+use Prim.Native.Nat.{ℕ, ◌+◌, ◌-◌, ◌≤◌}
+use lib.ListN.{length}
 use borrow.Rule.Slice.PartMut.{put_mid}
 use Rattle.codes.specs.Number.{put}
 use Rattle.blocks.specs.Block.{block_limit}
@@ -17,8 +15,9 @@ use Rattle.station.specs.Inner.{fetched, framed}
 use Rattle.station.specs.Exchange.{fetch_all, no_read}
 use Rattle.station.specs.Isolation.{answer, after}
 use Rattle.station.specs.Calls.{frame, exchange, to_frame, number_in, kinds}
-use Rattle.station.proofs.Tests.{by_test}
-use Rattle.station.proofs.Answers.{does}
+use Rattle.std.specs.declared.ops.Range.{Range}
+use Rattle.station.specs.Inner.{Place, Lent}
+use Rattle.station.proofs.Answers.{lends, does}
 use Rattle.station.proofs.Judged.{Passed, done_passes}
 use Rattle.station.proofs.Frames.{formed, fetched_frame}
 use Rattle.station.proofs.FrameOwes.{writes}
@@ -27,12 +26,6 @@ use Rattle.station.proofs.Isolation.{Right, took_answer, fine, length_after, own
 use Rattle.station.proofs.Owes.{sized}
 use Rattle.station.proofs.Refusals.{was_done}
 use Rattle.station.proofs.Merged.{reply_in, refused_alike, in_turn}
-
--- the bytes that are lent of a frame
-pub unread_bytes : (f : List ℕ) → (length (no_read f) ≤ length f) × (take (length (no_read f)) f ≡ no_read f)
-unread_bytes f =
-    by_test (λ (l : List ℕ). (length l ≤ length f) × (take (length l) f ≡ l)) (is_read f) [] f
-    (λ e. (omega arith, refl)) (λ e. (omega arith, take_all (length f) f (omega arith)))
 
 -- what its write answered, and left of the station s
 module _ (k : ℕ) (f m s : List ℕ) (a : Framed) (r t : List ℕ)
@@ -85,11 +78,14 @@ module _ (k : ℕ) (f m s : List ℕ) (a : Framed) (r t : List ℕ)
     pub hands : (length (part_of k t) ≡ part_size) × ((waiting_length (part_of k t) ≤ block_limit) × (4 + block_limit ≤ length r))
     hands = let w = formed k (part_of k t) passed.formed in (w.0, (w.1, passed.room))
 
-    pub ends : (b : Framed) (v u : List ℕ) → b ≡ framed (fetched (part_of k t)) 0 0 → v ≡ put r 0 (fetched (part_of k t)) → u ≡ with_response [] (part_of k t)
+    pub lent_again : (r : Range ℕ) → Place k r → Lent k (length t) r
+    lent_again r = lends k (length t) r home.low home.high home.size
+
+    pub ends : (place : Range ℕ) → Place k place → (b : Framed) (v u : List ℕ) → b ≡ framed (fetched (part_of k t)) 0 0 → v ≡ put r 0 (fetched (part_of k t)) → u ≡ with_response [] (part_of k t)
         → (to_frame (record { length = b.length; stored = a.stored; number = 0 }) v ≡ answer kinds (exchange k f m) s)
-        × (put_mid ((k - 1) * part_size) ((k - 1) * part_size + part_size - (k - 1) * part_size) t u ≡ after kinds (exchange k f m) s)
-    ends b v u x y z =
+        × (put_mid place.start (place.end - place.start) t u ≡ after kinds (exchange k f m) s)
+    ends place at b v u x y z =
         let h = fetched_frame k fetch_all r (part_of k t) passed refl in
-        let fetch = does kinds (frame k fetch_all r) t (to_frame b v) u (sym (fine home)) (ap₂ to_frame (x ∙ h.0) (y ∙ h.1.0)) (z ∙ h.1.1) in
+        let fetch = does kinds (frame k fetch_all r) t place (lent_again place at) (to_frame b v) u (ap₂ to_frame (x ∙ h.0) (y ∙ h.1.0)) (z ∙ h.1.1) in
         let turn = in_turn k f m s a b r v is (sym wrote) done (ap (answer kinds (frame k fetch_all r)) (sym went) ∙ sym fetch.0) in
         (sym turn.0, fetch.1 ∙ (ap (after kinds (frame k fetch_all r)) went ∙ sym turn.1))

@@ -6,7 +6,7 @@ use native.Mathlib.Numerals.{add-one}
 use native.Mathlib.Omega.{arith}
 use borrow.Author.Tests.{eq-eqb}
 use borrow.Rule.Slice.PartMut.{put_mid}
-use lib.ListN.{length, take, drop, length-append, length-drop}
+use lib.ListN.{length, take, drop, length-append}
 use lib.Seq.{take_at, take_all, length-take-le}
 use Rattle.part.specs.Layout.{part_size}
 use Rattle.part.specs.Fresh.{fresh_part, fresh_over}
@@ -25,9 +25,6 @@ more (suc n) = append_assoc fresh_part (fresh_parts n) fresh_part ∙ ap (λ (l 
 module _ (i : ℕ) (s ys : List ℕ) (room : i * part_size + part_size ≤ length s) (l : length ys ≡ part_size) where
   front : length (take (i * part_size) s) ≡ i * part_size
   front = length-take-le (i * part_size) s (omega arith)
-
-  pub length_kept : length (put_mid (i * part_size) (i * part_size + part_size - i * part_size) s ys) ≡ length s
-  length_kept = simp (length-append, length-drop, front, l) (omega arith)
 
   pub next_part : ys ≡ fresh_part → take (i * part_size) s ≡ fresh_parts i → take ((i + 1) * part_size) (put_mid (i * part_size) (i * part_size + part_size - i * part_size) s ys) ≡ fresh_parts (i + 1)
   next_part e h =

@@ -35,7 +35,8 @@ use Rattle.station.specs.declared.Framed.{Framed}
 use Rattle.station.specs.declared.Listed.{Listed}
 use Rattle.station.specs.Parts.{farms, station_size, part_of, station_refusal, fresh_station}
 use Rattle.station.specs.Frame.{frame_refusal, frame_reply}
-use Rattle.station.specs.Cycle.{Sent, SentFits, input_of, cycle_refusal, cycle_answer}
+use Rattle.station.specs.declared.Sent.{Sent}
+use Rattle.station.specs.Cycle.{SentFits, input_of, cycle_refusal, cycle_answer}
 use Rattle.station.specs.Runs.{calls_by, answers_to, SameSeen, run_answers, run_end}
 use Rattle.station.specs.Isolation.{Isolated, answer, after, machine}
 use Rattle.station.specs.Calls.{Call, cycle, frame, exchange, list, go_back, frame_by, to_frame, to_list, to_return, number_in, stored_in, owner, kinds}

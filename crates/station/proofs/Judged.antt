@@ -25,18 +25,6 @@ block_number k f p =
     (cond (is_write f && exhausts_in p (request.read (block_of f))) 15
     0))
 
-late : (a b c : Bool) → 0 ≡ early (cond a 10 (cond b 11 (cond c 15 0)))
-unfolding early
-late true b c = refl
-late false true c = refl
-late false false true = refl
-late false false false = refl
-
-pub block_late : (k : ℕ) (f p : List ℕ) → 0 ≡ early (block_number k f p)
-block_late k f p =
-    late (is_write f && not (readable block_limit request (block_of f))) (is_write f && not (eqb (header_of (block_of f)).axis k))
-    (is_write f && exhausts_in p (request.read (block_of f)))
-
 -- an early refusal is the refusal
 pub refused_early : (n x : ℕ) → n ≡ early x → (n ≡ 0 → ⊥) → x ≡ n
 unfolding early

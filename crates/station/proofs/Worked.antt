@@ -21,7 +21,8 @@ use Rattle.versions.specs.Fit.{columns_fit, versions_fit}
 use Rattle.versions.specs.Keep.{taken, restored, filled, taken_within, filled_within, restored_within}
 use Rattle.part.specs.Layout.{part_size, with_response}
 use Rattle.part.proofs.FreshPart.{fresh_length}
-use Rattle.part.specs.Record.{state_of, words_at, drive_of, put_drive}
+use Rattle.part.specs.Record.{words_at, drive_of, put_drive}
+use Rattle.drive.specs.States.{state_of}
 use Rattle.part.specs.Fresh.{fresh_front, fresh_part}
 use Rattle.part.specs.WellFormed.{limits_fit, fixed_fit, waiting_fits, unused_fit, well_formed}
 use Rattle.access.specs.Address.{checked}

@@ -6,7 +6,8 @@ use Rattle.station.specs.declared.CycleDone.{CycleDone}
 use Rattle.station.specs.declared.Framed.{Framed}
 use Rattle.station.specs.declared.Listed.{Listed}
 use Rattle.station.specs.declared.Returned.{Returned}
-use Rattle.station.specs.Cycle.{Sent, SentFits, cycle_tests, refused_cycle, cycle_answer, cycle_part}
+use Rattle.station.specs.declared.Sent.{Sent}
+use Rattle.station.specs.Cycle.{SentFits, cycle_tests, refused_cycle, cycle_answer, cycle_part}
 use Rattle.station.specs.Frame.{is_read, frame_tests, refused_reply, frame_answer, frame_reply, frame_part}
 use Rattle.station.specs.Exchange.{exchange_done, exchange_tests}
 use Rattle.station.specs.Versions.{refused_list, list_answer, refused_return, return_tests, return_answer, return_part}

@@ -1,24 +1,19 @@
 -- Document 01, "Control cycle" on the part of its axis, and "Cycles use 1, 2 and 12; a refused cycle answers its number and zeros."
-use Rattle.std.specs.Prelude.{false, cond, not, List, ℕ, ◌<◌, ◌^◌, eqb, ltb, ℤ, pos}
+use Rattle.std.specs.Prelude.{false, cond, not, List, ℕ, ◌<◌, ◌^◌, eqb, ltb, pos}
 use Rattle.std.specs.Int.Signed.{mag}
 use Rattle.codes.specs.Number.{number_at}
 use Rattle.drive.specs.declared.Input.{Input}
 use Rattle.drive.specs.declared.Output.{Output}
 use Rattle.drive.specs.Cycle.{bit, cycle_of}
 use Rattle.catalogue.specs.Table.{offset_of}
-use Rattle.part.specs.Record.{number_of, drive_of, put_drive}
+use Rattle.part.specs.Record.{drive_of, put_drive}
+use Rattle.drive.specs.States.{number_of}
 use Rattle.part.specs.WellFormed.{well_formed}
 use Rattle.station.specs.declared.CycleDone.{CycleDone}
+use Rattle.station.specs.declared.Sent.{Sent}
 
--- "flags byte (bit 0 standstill, bit 1 warning), STW1, NSOLL_A and NIST_A (signed 16 bits), fault code (0 = none)"
-pub record Sent : Type 0 where
-  pub flags : ℕ
-  pub stw1 : ℕ
-  pub nsoll : ℤ
-  pub nist : ℤ
-  pub fault : ℕ
-
--- The words of a cycle are numbers of 16 bits, as the call has them; `mag` of a negative number is one less than its size, so that
+-- A cycle is sent "flags byte (bit 0 standstill, bit 1 warning), STW1, NSOLL_A and NIST_A (signed 16 bits), fault code (0 = none)".
+-- The words are numbers of 16 bits, as the call has them; `mag` of a negative number is one less than its size, so that
 -- -32768 is among them.
 pub record SentFits (i : Sent) : Type 0 where
   pub stw1 : i.stw1 < 2 ^ 16

@@ -26,7 +26,8 @@ use Rattle.station.specs.declared.Framed.{Framed}
 use Rattle.station.specs.declared.Listed.{Listed}
 use Rattle.station.specs.Frame.{is_write, is_read, block_of, fetch_of, frame_refusal, reply_of, frame_reply}
 use Rattle.station.specs.Exchange.{fetch_all}
-use Rattle.station.specs.Cycle.{Sent, input_of, cycle_refusal, cycle_answer, cycle_part}
+use Rattle.station.specs.declared.Sent.{Sent}
+use Rattle.station.specs.Cycle.{input_of, cycle_refusal, cycle_answer, cycle_part}
 use Rattle.station.specs.Runs.{run_answers, run_end}
 use Rattle.station.specs.Isolation.{Isolated, answer, after, machine}
 use Rattle.station.specs.Calls.{Call, frame, exchange, list, go_back, frame_by, Answer, to_frame, to_list, to_return, number_in, stored_in, kind_of, owner, kinds}

@@ -1,3 +1,4 @@
+pub mod Refusal
 pub mod Parts
 pub mod Frame
 pub mod Exchange

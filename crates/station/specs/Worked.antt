@@ -93,12 +93,14 @@ abbrev pub ended_part : List ℕ
 ended_part =
     put_drive
     (record {
-      state = S1;
-      word = 0x047D;
-      setpoint = still;
-      effective = still;
-      status = 0x0360;
-      actual = still;
+      motion = record {
+        state = S1;
+        word = 0x047D;
+        setpoint = still;
+        effective = still;
+        status = 0x0360;
+        actual = still;
+      };
       faults = no_faults;
     })
     fresh_part

@@ -1,8 +1,12 @@
-// The tests 2 to 9 of a frame, in the order of their numbers; and how much of a frame a merged call takes.
-ghost use Rattle.std.specs.Prelude.{◌≡◌, not, ◌&&◌, ◌||◌, ◌≤◌, eqb, ltb, length};
+// The tests 2 to 9 of a frame, in the order of their numbers; and what a merged call takes of a frame.
+ghost use Rattle.std.specs.Prelude.{◌≡◌, false, ◌||◌, ◌≤◌, eqb, length, IfOk, MatchResult};
+ghost use Rattle.station.specs.declared.refusal.Refusal.TheVariants.{NoFrame};
+ghost use Rattle.station.specs.Refusal.{number_of};
 ghost use Rattle.station.specs.Frame.{function, length_fits, frame_refusal};
 ghost use Rattle.station.specs.Exchange.{no_read};
-ghost use Rattle.station.specs.Inner.{early};
+ghost use Rattle.station.specs.Inner.{early, byte_of};
+
+use super::Refusal;
 
 // Functions.
 pub(crate) const WRITE: u8 = 0x5F;
@@ -14,27 +18,32 @@ pub(crate) const INDEX: u8 = 47;
 // Bytes before a frame's block, and before that of a reply.
 pub(crate) const HEAD: usize = 4;
 
-// The function byte of a frame; 0 where it has none.
-pub(crate) fn function_of(f: &[u8]) -> u8
-    ensures { result ≡ function f.now }
-{
-    if f.len() == 0 {
-        return 0;
+// What a frame asks for.
+#[derive(Clone, Copy, PartialEq, Eq, Debug)]
+pub(crate) enum Function {
+    Write,
+    Read,
+}
+
+impl TryFrom<u8> for Function {
+    type Error = Refusal;
+
+    ghost try_from_gives = { λ b r. MatchResult r (λ asked. b ≡ byte_of asked) (λ refusal. (refusal ≡ NoFrame) × ((eqb b 0x5F || eqb b 0x5E) ≡ false)) };
+
+    fn try_from(b: u8) -> Result<Function, Refusal> {
+        match b {
+            WRITE => Ok(Function::Write),
+            READ => Ok(Function::Read),
+            _ => Err(Refusal::NoFrame),
+        }
     }
-    f[0]
 }
 
-// How much of a frame a merged call takes: nothing of a read.
-pub(crate) fn unread_length(f: &[u8]) -> usize
-    ensures { result ≡ length (no_read f.now) }
+// What a merged call takes of a frame: nothing of a read.
+pub(crate) fn without_read(f: &[u8]) -> &[u8]
+    ensures { result.now ≡ no_read f.now }
 {
-    if function_of(f) == READ { 0 } else { f.len() }
-}
-
-fn is_function(b: u8) -> bool
-    ensures { result ≡ (eqb b 0x5F || eqb b 0x5E) }
-{
-    codes::either(b == WRITE, b == READ)
+    if matches!(f, [READ, ..]) { &[] } else { f }
 }
 
 // Whether the length byte says how many bytes follow; a read has none after it.
@@ -42,71 +51,41 @@ fn length_fits(f: &[u8]) -> bool
     requires { 4 ≤ length f.now }
     ensures { result ≡ length_fits f.now }
 {
-    let n = codes::wide(f[3]);
-    if blocks::BLOCK_LIMIT < n {
-        return false;
-    }
-    if f[0] == WRITE {
-        return f.len() - HEAD == n;
-    }
-    f.len() - HEAD == 0
+    let n = usize::from(f[3]);
+    let after = if f[0] == WRITE { n } else { 0 };
+    n <= blocks::BLOCK_LIMIT && f.len() - HEAD == after
 }
 
-// A write with a response waiting, or a read with none.
-fn out_of_turn(function: u8, waiting: u8) -> bool
-    ensures { result ≡ (eqb function 0x5F && not (eqb waiting 0) || eqb function 0x5E && eqb waiting 0) }
-{
-    if function == WRITE {
-        return waiting != 0;
-    }
-    if function == READ {
-        return waiting == 0;
-    }
-    false
-}
-
-// A read that wants fewer bytes than wait.
-fn wants_fewer(function: u8, wanted: u8, waiting: u8) -> bool
-    ensures { result ≡ (eqb function 0x5E && ltb wanted waiting) }
-{
-    if function == READ {
-        wanted < waiting
-    } else {
-        false
-    }
-}
-
-// The refusal of a frame by numbers 2 to 9; 0 where its block is left to judge. `room` is the size of the reply memory.
-pub(crate) fn judge(part: &[u8], k: u8, f: &[u8], room: usize) -> u8
-    ensures { result ≡ early (frame_refusal k f.now room part.now) }
+// What a frame asks for that passes numbers 2 to 9; its block is left to judge. `room` is the size of the reply memory.
+#[tactic(auto, unfolding(crate::specs::Inner::early, crate::specs::Frame::frame_refusal))]
+pub(crate) fn judge(part: &[u8], k: u8, f: &[u8], room: usize) -> Result<Function, Refusal>
+    ensures number { number_of result ≡ early (frame_refusal k f.now room part.now) }
+    ensures asked { IfOk result (λ asked. function f.now ≡ byte_of asked) }
 {
     if !part::well_formed(part, k) {
-        return 2;
+        return Err(Refusal::NotWellFormed);
     }
     if room < HEAD + blocks::BLOCK_LIMIT {
-        return 3;
+        return Err(Refusal::ShortReply);
     }
-    if f.len() < HEAD {
-        return 4;
+    let [function, slot, index, wanted, ..] = *f else {
+        return Err(Refusal::NoFrame);
+    };
+    let asked = Function::try_from(function)?;
+    if slot != 0 {
+        return Err(Refusal::WrongSlot);
     }
-    if !is_function(f[0]) {
-        return 4;
-    }
-    if f[1] != 0 {
-        return 5;
-    }
-    if f[2] != INDEX {
-        return 6;
+    if index != INDEX {
+        return Err(Refusal::WrongIndex);
     }
     if !length_fits(f) {
-        return 7;
+        return Err(Refusal::WrongLength);
     }
     let waiting = part::waiting_length(part);
-    if out_of_turn(f[0], waiting) {
-        return 8;
+    match asked {
+        Function::Write if waiting != 0 => Err(Refusal::OutOfTurn),
+        Function::Read if waiting == 0 => Err(Refusal::OutOfTurn),
+        Function::Read if wanted < waiting => Err(Refusal::WantsFewer),
+        _ => Ok(asked),
     }
-    if wants_fewer(f[0], f[3], waiting) {
-        return 9;
-    }
-    0
 }

@@ -3,102 +3,73 @@ ghost use Rattle.std.specs.Prelude.{false, ◌≡◌};
 ghost use Rattle.drive.specs.Motion.{moved_of};
 ghost use Rattle.part.specs.Record.{put_motion};
 ghost use Rattle.station.specs.Cycle.{input_of, refused_cycle, cycled, cycle_answer, cycle_part};
+ghost use Rattle.station.specs.Inner.{told};
 
-use super::{CycleDone, Cycled};
-use drive::{Input, Motion, N2, Output};
-
-// A refused cycle answers its number and zeros, and did nothing.
-pub(crate) fn refused_cycle(n: u8) -> CycleDone
-    ensures { result ≡ refused_cycle n }
-{
-    let told = Cycled {
-        rpm: 0,
-        status: 0,
-        state: 0,
-        number: n,
-    };
-    CycleDone {
-        told: told,
-        acknowledged: false,
-        entered: false,
-    }
-}
+use super::{CycleDone, Cycled, Refusal, Sent};
+use drive::{Drive, Input, Motion, N2, Output};
 
 // What a cycle is given, with the axis's parameters.
-fn input_of(part: &[u8], flags: u32, stw1: u16, nsoll: i16, nist: i16, fault: u16) -> Input
-    ensures { result ≡ input_of (record { flags = flags; stw1 = stw1; nsoll = nsoll; nist = nist; fault = fault }) part.now }
+fn input_of(part: &[u8], sent: Sent) -> Input
+    ensures { result ≡ input_of sent part.now }
 {
     Input {
-        standstill: flags / 1 % 2 == 1,
-        warning: flags / 2 % 2 == 1,
-        stw1: stw1,
-        nsoll: N2(nsoll),
-        nist: N2(nist),
-        fault: fault,
+        standstill: sent.flags % 2 == 1,
+        warning: sent.flags / 2 % 2 == 1,
+        stw1: sent.stw1,
+        nsoll: N2(sent.nsoll),
+        nist: N2(sent.nist),
+        fault: sent.fault,
         reference: codes::word_at(part, catalogue::AT_10111 as usize),
         window: codes::word_at(part, catalogue::AT_30002 as usize),
         threshold: codes::word_at(part, catalogue::AT_30003 as usize),
     }
 }
 
-fn answered(a: Output) -> CycleDone
-    ensures { result ≡ cycled a }
+fn answered(output: Output) -> CycleDone
+    ensures { result ≡ cycled output }
 {
-    let s = a.state;
-    let v = a.speed;
     let told = Cycled {
-        rpm: v.0,
-        status: a.status,
-        state: part::number_of(s),
+        rpm: output.speed.0,
+        status: output.status,
+        state: u8::from(output.state),
         number: 0,
     };
     CycleDone {
-        told: told,
-        acknowledged: a.acknowledged,
-        entered: a.entered,
+        told,
+        acknowledged: output.acknowledged,
+        entered: output.entered,
     }
 }
 
 // A cycle that leaves the faults as they are, and so neither loads nor stores them. `faulted`: situation 0 is not empty.
-fn quiet_cycle(part: &mut [u8], m: Motion, faulted: bool, i: Input) -> CycleDone
-    ensures value { result ≡ cycled (moved_of m faulted false i).output }
-    ensures part_after { part.new ≡ put_motion (moved_of m faulted false i).motion part.old }
+fn quiet_cycle(part: &mut [u8], motion: Motion, faulted: bool, input: Input) -> CycleDone
+    ensures value { result ≡ cycled (moved_of motion faulted false input).output }
+    ensures part_after { part.new ≡ put_motion (moved_of motion faulted false input).motion part.old }
 {
-    let e = drive::move_on(m, faulted, false, i);
-    let after = e.motion;
-    let a = e.output;
-    part::store_motion(part, after);
-    answered(a)
+    let moved = drive::move_on(motion, faulted, false, input);
+    part::store_motion(part, moved.motion);
+    answered(moved.output)
 }
 
 // A cycle of the axis k.
-pub(crate) fn cycle_on(
-    part: &mut [u8],
-    k: u8,
-    flags: u32,
-    stw1: u16,
-    nsoll: i16,
-    nist: i16,
-    fault: u16,
-) -> CycleDone
-    ensures value { result ≡ cycle_answer k (record { flags = flags; stw1 = stw1; nsoll = nsoll; nist = nist; fault = fault }) part.old }
-    ensures part_after { part.new ≡ cycle_part k (record { flags = flags; stw1 = stw1; nsoll = nsoll; nist = nist; fault = fault }) part.old }
+pub(crate) fn cycle_on(part: &mut [u8], k: u8, sent: Sent) -> Result<CycleDone, Refusal>
+    ensures value { told refused_cycle result ≡ cycle_answer k sent part.old }
+    ensures part_after { part.new ≡ cycle_part k sent part.old }
 {
     if !part::well_formed(part, k) {
-        return refused_cycle(2);
+        return Err(Refusal::NotWellFormed);
     }
-    if 3 < flags {
-        return refused_cycle(12);
+    if 3 < sent.flags {
+        return Err(Refusal::UnknownFlags);
     }
-    let i = input_of(part, flags, stw1, nsoll, nist, fault);
-    let m = part::load_motion(part);
+    let input = input_of(part, sent);
+    let motion = part::load_motion(part);
     let empty = part::has_no_fault(part);
-    if drive::is_quiet(m.word, empty, i) { // as nearly every cycle is
-        return quiet_cycle(part, m, !empty, i);
+    if drive::is_quiet(motion.word, empty, input) { // as nearly every cycle is
+        return Ok(quiet_cycle(part, motion, !empty, input));
     }
-    let c = drive::cycle_lent(drive::with_faults(m, part::load_faults(part)), i);
-    let d = c.drive;
-    let a = c.output;
-    part::store(part, d);
-    answered(a)
+    let faults = part::load_faults(part);
+    let done = drive::cycle_lent(Drive { motion, faults }, input);
+    part::store(part, done.drive);
+    Ok(answered(done.output))
 }

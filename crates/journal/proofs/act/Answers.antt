@@ -1,31 +1,57 @@
--- By what the bytes are.
+-- By the kind of the record.
 use mathlib.Core.Path.{sym, ap, ◌∙◌}
+use borrow.Author.Rules.{rules}
+use Rattle.std.specs.Prelude.{Some, None}
+use Rattle.journal.specs.declared.record.Kind.TheVariants.{Cycle, Frame, Return}
 use Rattle.journal.specs.Line.{cycle_call, frame_call, return_call}
 use Rattle.journal.specs.History.{acted_by}
 use Rattle.journal.proofs.Lines.{frame_acted}
-use Rattle.journal.proofs.Records.{comes_cycle, comes_return, comes_frame, comes_bad}
+use Rattle.journal.proofs.Records.{comes_of}
 use Rattle.journal.proofs.act.Goals as goal
 
-pub returns-then-is_cycle : goal.returns-then-is_cycle
-returns-then-is_cycle c =
-    let a = c.args in
-    let e = comes_cycle a.bytes.now a.station.now (sym c.is_cycle.ensures ∙ c.if-is_cycle.true) in
-    record { value = ap (acted_by (cycle_call a.bytes.now)) c.cycle.ensures.result_value ∙ sym e.acted; station_after = c.cycle.ensures.station_after ∙ sym e.after }
+pub returns-in_err-kind_of : goal.returns-in_err-kind_of
+returns-in_err-kind_of c =
+    let e = comes_of c.args.bytes.now c.args.station.now None (sym c.in_err-kind_of.was ∙ c.kind_of.ensures) in
+    record { value = c.from_residual.ensures ∙ sym e.acted; station_after = sym e.after }
 
-pub returns-then-is_return : goal.returns-then-is_return
-returns-then-is_return c =
-    let a = c.args in
-    let e = comes_return a.bytes.now a.station.now (sym c.is_cycle.ensures ∙ c.if-is_cycle.false) (sym c.is_return.ensures ∙ c.if-is_return.true) in
-    record { value = ap (acted_by (return_call a.bytes.now)) c.go_back.ensures.result_value ∙ sym e.acted; station_after = c.go_back.ensures.station_after ∙ sym e.after }
+pub cycle-requires : goal.cycle-requires
+cycle-requires c = (comes_of c.args.bytes.now c.args.station.now (Some Cycle) (ap Some (sym c.in-Cycle.is) ∙ (sym c.in_ok-kind_of.was ∙ c.kind_of.ensures))).1
 
-pub returns-then-is_frame : goal.returns-then-is_frame
-returns-then-is_frame c =
-    let a = c.args in
-    let e = comes_frame a.bytes.now a.station.now (sym c.is_cycle.ensures ∙ c.if-is_cycle.false) (sym c.is_return.ensures ∙ c.if-is_return.false) (sym c.is_frame.ensures ∙ c.if-is_frame.true) in
-    record { value = frame_acted a.bytes.now c.frame.result c.frame.new.reply ∙ (ap (acted_by (frame_call a.bytes.now)) c.frame.ensures.reply_after ∙ sym e.acted); station_after = c.frame.ensures.station_after ∙ sym e.after }
+pub bounds-bytes-1 : goal.bounds-bytes-1
+bounds-bytes-1 c = let long = (comes_of c.args.bytes.now c.args.station.now (Some Cycle) (ap Some (sym c.in-Cycle.is) ∙ (sym c.in_ok-kind_of.was ∙ c.kind_of.ensures))).1 in search rules
 
-pub returns : goal.returns
-returns c =
-    let a = c.args in
-    let e = comes_bad a.bytes.now a.station.now (sym c.is_cycle.ensures ∙ c.if-is_cycle.false) (sym c.is_return.ensures ∙ c.if-is_return.false) (sym c.is_frame.ensures ∙ c.if-is_frame.false) in
-    record { value = sym e.acted; station_after = sym e.after }
+pub returns-in-Cycle : goal.returns-in-Cycle
+returns-in-Cycle c =
+    let r = c.args.bytes.now in
+    let e = (comes_of r c.args.station.now (Some Cycle) (ap Some (sym c.in-Cycle.is) ∙ (sym c.in_ok-kind_of.was ∙ c.kind_of.ensures))).0 in
+    record { value = ap (acted_by (cycle_call r)) c.cycle.ensures.result_value ∙ sym e.acted; station_after = c.cycle.ensures.station_after ∙ sym e.after }
+
+pub frame-f-requires : goal.frame-f-requires
+frame-f-requires c =
+    let e = comes_of c.args.bytes.now c.args.station.now (Some (Frame c.in-Frame.merged)) (ap Some (sym c.in-Frame.is) ∙ (sym c.in_ok-kind_of.was ∙ c.kind_of.ensures)) in (e.1, (e.2, (e.3, search rules)))
+
+pub bounds-bytes-1-in-Frame : goal.bounds-bytes-1-in-Frame
+bounds-bytes-1-in-Frame c =
+    let long = (comes_of c.args.bytes.now c.args.station.now (Some (Frame c.in-Frame.merged)) (ap Some (sym c.in-Frame.is) ∙ (sym c.in_ok-kind_of.was ∙ c.kind_of.ensures))).1 in search rules
+
+pub returns-in-Frame : goal.returns-in-Frame
+returns-in-Frame c =
+    let r = c.args.bytes.now in
+    let e = (comes_of r c.args.station.now (Some (Frame c.in-Frame.merged)) (ap Some (sym c.in-Frame.is) ∙ (sym c.in_ok-kind_of.was ∙ c.kind_of.ensures))).0 in
+    record {
+      value = frame_acted r c.frame-f.result c.frame-f.new.reply ∙ (ap (acted_by (frame_call r)) c.frame-f.ensures.reply_after ∙ sym e.acted);
+      station_after = c.frame-f.ensures.station_after ∙ sym e.after;
+    }
+
+pub go_back-requires : goal.go_back-requires
+go_back-requires c = (comes_of c.args.bytes.now c.args.station.now (Some Return) (ap Some (sym c.in-Return.is) ∙ (sym c.in_ok-kind_of.was ∙ c.kind_of.ensures))).1
+
+pub bounds-bytes-1-in-Return : goal.bounds-bytes-1-in-Return
+bounds-bytes-1-in-Return c =
+    let long = (comes_of c.args.bytes.now c.args.station.now (Some Return) (ap Some (sym c.in-Return.is) ∙ (sym c.in_ok-kind_of.was ∙ c.kind_of.ensures))).1 in search rules
+
+pub returns-in-Return : goal.returns-in-Return
+returns-in-Return c =
+    let r = c.args.bytes.now in
+    let e = (comes_of r c.args.station.now (Some Return) (ap Some (sym c.in-Return.is) ∙ (sym c.in_ok-kind_of.was ∙ c.kind_of.ensures))).0 in
+    record { value = ap (acted_by (return_call r)) c.go_back.ensures.result_value ∙ sym e.acted; station_after = c.go_back.ensures.station_after ∙ sym e.after }

@@ -8,13 +8,12 @@ use Rattle.catalogue.specs.Table.{rows, parameter_bytes}
 use Rattle.versions.specs.Layout.{last_at}
 use Rattle.part.specs.Layout.{part_size}
 use Rattle.station.specs.Parts.{farms, station_size, fresh_number, fresh_station}
-use Rattle.station.proofs.FreshParts.{made, length_kept, next_part, all_made}
-use borrow.Author.Rules.{rules}
+use Rattle.station.proofs.FreshParts.{made, next_part, all_made}
 use Rattle.station.proofs.fresh.Goals as goal
 
 pub returns-then-station-ne-STATION : goal.returns-then-station-ne-STATION
 unfolding fresh_number fresh_station parameter_bytes rows last_at
-returns-then-station-ne-STATION c = rw (ne_eqb _ _ c.if-station-ne-STATION.true) (record { value = refl; station_after = refl })
+returns-then-station-ne-STATION c = rw (ne_eqb _ _ c.if-station-ne-STATION.true) (record { value = refl; done = λ n. absurd (c.if-station-ne-STATION.true n); station_after = refl })
 
 pub loop-i-preserved : goal.loop-i-preserved
 unfolding parameter_bytes rows last_at
@@ -22,12 +21,7 @@ loop-i-preserved c =
     let l = c.loop-i in
     let f = c.fresh in
     let n : length (take (l.i * part_size + part_size - l.i * part_size) (drop (l.i * part_size) l.station)) ≡ part_size = simp (length-take, length-drop) (omega arith) in
-    let e = f.ensures ∙ made _ n in
-    let k = f.auto.part ∙ n in (
-      search rules,
-      length_kept l.i l.station f.new.part (omega arith) k ∙ l.invariant.1,
-      next_part l.i l.station f.new.part (omega arith) k e l.invariant.2,
-    )
+    next_part l.i l.station f.new.part (omega arith) (f.auto.part ∙ n) (f.ensures ∙ made _ n) l.invariant
 
 pub returns : goal.returns
 unfolding fresh_number fresh_station parameter_bytes rows last_at
@@ -35,4 +29,4 @@ returns c =
     let l = c.loop-i in
     let n : length c.args.station.now ≡ station_size = c.if-station-ne-STATION.false in
     let e : l.i ≡ farms = omega arith in
-    rw (eq-eqb _ _ n) (record { value = refl; station_after = all_made l.station (l.invariant.1 ∙ n) (rw e at l.invariant.2) })
+    rw (eq-eqb _ _ n) (record { value = refl; done = λ n. refl; station_after = all_made l.station (l.auto.station ∙ n) (rw e at l.invariant) })

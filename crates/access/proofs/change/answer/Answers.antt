@@ -15,14 +15,14 @@ pub change_all-d-requires : goal.change_all-d-requires
 change_all-d-requires c =
     let s = c.args.block.now in
     let p = c.requires in
-    rw c.wide.ensures (walk_whole s p.0 c.args.h p.1, blocks_whole s p.0 c.args.h p.1 p.2, count_few s p.0 c.args.h p.1, refl)
+    (walk_whole s p.0 c.args.h p.1, blocks_whole s p.0 c.args.h p.1 p.2, count_few s p.0 c.args.h p.1, refl)
 
 pub returns-then-used_up-2 : goal.returns-then-used_up-2
 returns-then-used_up-2 c =
     let a = c.args in
     let lent : Lent c.is_used_up-used_up.result c.if-used_up.open a.part.now =
     elim c.if-used_up.branch [ then-used_up w ↦ inl (w.if-used_up.true, w.open-is) | else-used_up w ↦ inr (w.if-used_up.false, w.open-is) ] in
-    let o = rw c.wide.ensures at c.change_all-d.ensures in
+    let o = c.change_all-d.ensures in
     change_refused a.block.now c.requires.0 a.h c.requires.1 (replicate block_limit 0) a.part.now refl c.requires.2
     c.is_used_up-used_up.result c.if-used_up.open lent _ _ c.change_all-d.result o c.is_used_up-used_up.ensures c.if-used_up-2.true c.if-d-ne0.true
 
@@ -31,7 +31,7 @@ respond-requires c =
     let a = c.args in
     let lent : Lent c.is_used_up-used_up.result c.if-used_up.open a.part.now =
     elim c.if-used_up.branch [ then-used_up w ↦ inl (w.if-used_up.true, w.open-is) | else-used_up w ↦ inr (w.if-used_up.false, w.open-is) ] in
-    let o = rw c.wide.ensures at c.change_all-d.ensures in
+    let o = c.change_all-d.ensures in
     change_room a.block.now c.requires.0 a.h c.requires.1 (replicate block_limit 0) a.part.now refl c.requires.2
     c.is_used_up-used_up.result c.if-used_up.open lent _ _ c.change_all-d.result o
 
@@ -43,7 +43,7 @@ returns-then-d c =
     elim c.if-used_up.branch [ then-used_up w ↦ inl (w.if-used_up.true, w.open-is) | else-used_up w ↦ inr (w.if-used_up.false, w.open-is) ] in
     let versioned : Versioned c.is_used_up-used_up.result c.change_all-d.result.stored (c.change_all-d.new.part ++ drop c.if-used_up.open a.part.now) c.if-d-ne0.part =
     elim c.if-d-ne0.branch [ then-d-ne0+else-used_up-2 w ↦ inl (w.if-d-ne0.true, w.if-used_up-2.false, w.part-is ∙ w.take_within.ensures) | else-d-ne0 w ↦ inr (w.if-d-ne0.false, w.part-is) ] in
-    let o = rw c.wide.ensures at c.change_all-d.ensures in
+    let o = c.change_all-d.ensures in
     change_failed a.block.now c.requires.0 a.h c.requires.1 (replicate block_limit 0) a.part.now refl c.requires.2
     c.is_used_up-used_up.result c.if-used_up.open lent _ _ c.change_all-d.result o c.is_used_up-used_up.ensures
     c.if-d-ne0.part versioned c.if-d.true _ c.respond.ensures
@@ -56,7 +56,7 @@ returns-else-d c =
     elim c.if-used_up.branch [ then-used_up w ↦ inl (w.if-used_up.true, w.open-is) | else-used_up w ↦ inr (w.if-used_up.false, w.open-is) ] in
     let versioned : Versioned c.is_used_up-used_up.result c.change_all-d.result.stored (c.change_all-d.new.part ++ drop c.if-used_up.open a.part.now) c.if-d-ne0.part =
     elim c.if-d-ne0.branch [ then-d-ne0+else-used_up-2 w ↦ inl (w.if-d-ne0.true, w.if-used_up-2.false, w.part-is ∙ w.take_within.ensures) | else-d-ne0 w ↦ inr (w.if-d-ne0.false, w.part-is) ] in
-    let o = rw c.wide.ensures at c.change_all-d.ensures in
+    let o = c.change_all-d.ensures in
     change_done a.block.now c.requires.0 a.h c.requires.1 (replicate block_limit 0) a.part.now refl c.requires.2
     c.is_used_up-used_up.result c.if-used_up.open lent _ _ c.change_all-d.result o c.is_used_up-used_up.ensures
     c.if-d-ne0.part versioned c.if-d.false _ c.respond-else-d.ensures

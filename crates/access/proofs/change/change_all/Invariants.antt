@@ -1,12 +1,12 @@
 -- The loop's invariant: what is left to do from where it stands is what was to be done at first.
 use mathlib.Core.Path.{◌≡◌}
-use Prim.Native.Nat.{ℕ, ◌+◌, ◌-◌, ◌*◌}
+use Prim.Native.Nat.{◌+◌, ◌-◌, ◌*◌}
 use Rattle.access.proofs.Changing.{Changing}
 use Rattle.access.proofs.change.change_all.Given as goal
 
-abbrev pub invariant-loop-at : goal.invariant-loop-at
-invariant-loop-at l =
-    (left : ℕ) × ((l.at + left * 6 ≡ l.end) × Changing l.block l.n l.initial.part l.initial.out l.part l.out l.at l.from left l.all)
-
-abbrev pub decreases-loop-at : goal.decreases-loop-at
-decreases-loop-at l = l.end - l.at
+abbrev pub invariant-loop : goal.invariant-loop
+invariant-loop l =
+    record {
+      place : l.at ≡ 4 + l.counter * 6;
+      changes : Changing l.block l.n l.initial.part l.initial.out l.part l.out l.at l.from (l.n - l.counter) l.all;
+    }

@@ -1,6 +1,5 @@
 -- A block stands there, so its two bytes do, and its values and what fills them up end where the next begins.
-use mathlib.Core.Path.{ap}
-use Prim.Native.Nat.{ℕ, ◌*◌}
+use mathlib.Core.Path.{refl}
 use native.Mathlib.Omega.{arith}
 use Rattle.codes.proofs.Fixed.{Bytes}
 use Rattle.access.proofs.Heads.{head_room, head_is, bare_small}
@@ -22,26 +21,22 @@ pub overflow_add-result : goal.overflow_add-result
 overflow_add-result c =
     let s = c.args.block.now in
     let y : Bytes s = λ i. omega (arith, c.type_inv.block i) in
-    let all = ap (λ (n : ℕ). n * c.format_size-size.result) c.wide.ensures in
-    omega (arith, head_room s c.args.at c.requires.0 c.requires.1, bare_small s c.args.at c.requires.0 c.requires.1 y _ _ c.format_size-size.ensures.0 all)
+    omega (arith, head_room s c.args.at c.requires.0 c.requires.1, bare_small s c.args.at c.requires.0 c.requires.1 y _ _ c.format_size-size.ensures.0 refl)
 
 pub overflow_add-result-2 : goal.overflow_add-result-2
 overflow_add-result-2 c =
     let s = c.args.block.now in
     let y : Bytes s = λ i. omega (arith, c.type_inv.block i) in
-    let all = ap (λ (n : ℕ). n * c.format_size-size.result) c.wide.ensures in
-    omega (arith, head_room s c.args.at c.requires.0 c.requires.1, bare_small s c.args.at c.requires.0 c.requires.1 y _ _ c.format_size-size.ensures.0 all)
+    omega (arith, head_room s c.args.at c.requires.0 c.requires.1, bare_small s c.args.at c.requires.0 c.requires.1 y _ _ c.format_size-size.ensures.0 refl)
 
 pub overflow_add-result-3 : goal.overflow_add-result-3
 overflow_add-result-3 c =
     let s = c.args.block.now in
     let y : Bytes s = λ i. omega (arith, c.type_inv.block i) in
-    let all = ap (λ (n : ℕ). n * c.format_size-size.result) c.wide.ensures in
-    omega (arith, head_room s c.args.at c.requires.0 c.requires.1, bare_small s c.args.at c.requires.0 c.requires.1 y _ _ c.format_size-size.ensures.0 all)
+    omega (arith, head_room s c.args.at c.requires.0 c.requires.1, bare_small s c.args.at c.requires.0 c.requires.1 y _ _ c.format_size-size.ensures.0 refl)
 
 pub returns : goal.returns
 returns c =
     let s = c.args.block.now in
     let y : Bytes s = λ i. omega (arith, c.type_inv.block i) in
-    let all = ap (λ (n : ℕ). n * c.format_size-size.result) c.wide.ensures in
-    head_is s c.args.at c.requires.0 c.requires.1 y _ _ c.format_size-size.ensures.0 all
+    head_is s c.args.at c.requires.0 c.requires.1 y _ _ c.format_size-size.ensures.0 refl

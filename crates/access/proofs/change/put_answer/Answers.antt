@@ -11,4 +11,4 @@ pub returns : goal.returns
 returns c =
     let a = c.args in
     let next : a.at + 1 ≡ suc a.at = add-one a.at in
-    answer_empty a.out.now _ a.at a.d c.if-d.false (rw next (sets_put a.out.now a.at (0x40 ∷ 0 ∷ []) c.requires.1))
+    rw c.in_default.is (answer_empty a.out.now _ a.at c.in_default.field-0 (rw next (sets_put a.out.now a.at (0x40 ∷ 0 ∷ []) c.requires.1)))

@@ -1,22 +1,28 @@
 -- The loop's invariant: what is left to answer from where it stands is what was to be answered at first.
-use mathlib.Core.Path.{sym, ◌∙◌, subst}
-use mathlib.Core.Bool.{Bool}
 use native.Mathlib.Omega.{arith}
-use Prim.Native.Nat.{◌-◌}
-use Rattle.access.proofs.Reading.{Reading, turn, finish}
+use Prim.Native.Nat.{◌+◌}
+use Rattle.blocks.specs.Place.{address_in}
+use Rattle.access.proofs.Reading.{step_left, turn, finish}
 use borrow.Author.Rules.{rules}
 use Rattle.access.proofs.read.read_all.Goals as goal
 
-pub loop-left-preserved : goal.loop-left-preserved
-loop-left-preserved c =
+pub loop-after-preserved : goal.loop-after-preserved
+loop-after-preserved c =
     let a = c.args in
-    let l = c.loop-left in
+    let l = c.loop-after in
     let o = c.read_one-w in
-    subst (λ (e : Bool). Reading a.part.now a.block.now a.n a.out.now o.new.out c.in-Some.next o.result.next e (l.left - 1)) (sym c.either-error.ensures)
-    (turn a.part.now a.block.now a.n a.out.now l.out l.at l.used l.error l.left c.in-Some.a c.in-Some.next o.new.out o.result c.loop-left-test.true (sym c.address_at.ensures ∙ c.in-Some.is) o.ensures l.invariant)
+    let s = a.block.now in
+    record {
+      place = omega (arith, l.invariant.place, c.loop-after-test.true);
+      answers =
+          turn a.part.now s a.n a.out.now l.out l.at l.used l.error l.after (address_in s l.at) (l.at + 6) o.new.out o.result c.loop-after-test.true
+          (step_left s l.at l.after c.loop-after-test.true l.invariant.answers.whole)
+          (rw (← c.address_of.ensures) o.ensures)
+          l.invariant.answers;
+    }
 
 pub returns : goal.returns
 returns c =
     let a = c.args in
-    let l = c.loop-left in
-    finish a.part.now a.block.now a.n a.out.now l.out l.at l.used l.error l.left (omega arith) (search rules) (omega arith) (search rules) l.invariant
+    let l = c.loop-after in
+    finish a.part.now a.block.now a.n a.out.now l.out l.at l.used l.error l.after (omega (arith, c.loop-after-test.false)) (search rules) (omega arith) (search rules) l.invariant.answers

@@ -10,7 +10,7 @@ pub returns : goal.returns
 returns c =
     let a = c.args in
     record {
-      bytes = c.put_error.ensures ∙ ap (put a.out.now a.at) (sym (error_bytes a.error));
+      bytes = rw (← c.from.ensures) (c.put_error.ensures ∙ ap (put a.out.now a.at) (sym (error_bytes c.from.result)));
       next = ap (λ (k : ℕ). a.at + k) (sym (error_size a.error));
       error = refl;
     }

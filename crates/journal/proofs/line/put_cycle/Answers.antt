@@ -1,21 +1,16 @@
--- A refused cycle, or the pieces of its line one after the other.
-use mir.ValLaws.{to_z-of_z}
-use Prim.Native.Nat.{ℕ}
+-- The pieces of the line one after the other.
+use mathlib.Core.Path.{ap}
 use mir.Syntax.{w32}
-use Rattle.journal.proofs.Lines.{cycle_worked}
-use Rattle.journal.specs.Line.{space}
-use Rattle.journal.proofs.Pieces.{Wrote, wrote, wrote_first, promised_first, and_then, said}
-use Rattle.journal.specs.Text.{signed}
-use mathlib.Core.Path.{◌≡◌, sym, ap}
-use mathlib.Core.List.{List, ◌∷◌}
-use native.Mathlib.Omega.{arith}
+use mir.ValLaws.{to_z-of_z}
 use borrow.Author.Rules.{rules}
+use Rattle.journal.specs.Text.{signed}
+use Rattle.journal.proofs.Lines.{cycle_worked}
+use Rattle.journal.proofs.Pieces.{and_then, said}
 use Rattle.journal.proofs.line.put_cycle.Goals as goal
 
 pub returns : goal.returns
 returns c =
     let a = c.args in
-    let same : signed a.c.rpm ≡ signed _ = ap signed (sym (to_z-of_z w32 a.c.rpm (search rules))) in
-    let speed : Wrote _ _ (space ∷ signed a.c.rpm) _ _ = said (wrote (c.put_speed.ensures.line_after, c.put_speed.ensures.value)) (ap (λ (l : List ℕ). space ∷ l) same) in
-    let w = and_then (and_then (and_then (wrote_first (c.put_head-next.ensures.line_after, c.put_head-next.ensures.value)) (wrote (c.put_state-next.ensures.line_after, c.put_state-next.ensures.value)) (omega arith)) (wrote (c.put_status-next.ensures.line_after, c.put_status-next.ensures.value)) (omega arith)) speed (omega arith) in
-    let both = promised_first (said w (cycle_worked a.axis a.c c.if-c-ne0.false)) (omega arith) in record { line_after = both.0; value = both.1 }
+    let same = ap signed (to_z-of_z w32 a.c.rpm (search rules)) in
+    let line = rw (c.from.ensures, same) at (and_then c.put_head.ensures (and_then c.put_state.ensures (and_then c.put_status.ensures (and_then c.put_speed.ensures c.put_byte.ensures)))) in
+    said line (cycle_worked a.axis a.c c.if-c-ne0.false)

@@ -21,18 +21,14 @@ returns-then-part c =
     sym (put_too_long a.part.now (offset_of 947) (write_all (word 2).write a.b) (omega (arith, all_length (word 2).write 2 (word_length 2) a.b)))
 
 pub loop-i-init : goal.loop-i-init
-loop-i-init c =
-    let a = c.args in
-    (search rules, sym (put_none a.part.now (offset_of 947)))
+loop-i-init c = sym (put_none c.args.part.now (offset_of 947))
 
 pub loop-i-preserved : goal.loop-i-preserved
 unfolding offset_of find_of rows
 loop-i-preserved c =
     let a = c.args in
     let l = c.loop-i in
-    let long : length a.b ≡ buffer_codes = search rules in (
-      search rules,
-      c.put_word.ensures
-          ∙ ap (λ (x : List ℕ). put x (offset_of 947 + l.i * 2) ((word 2).write (get_or a.b l.i 0))) l.invariant.1
-          ∙ value_next 2 a.b l.i (omega arith) a.part.now (offset_of 947) (omega arith),
-    )
+    let long : length a.b ≡ buffer_codes = search rules in
+    c.put_word.ensures
+    ∙ ap (λ (x : List ℕ). put x (offset_of 947 + l.i * 2) ((word 2).write (get_or a.b l.i 0))) l.invariant
+    ∙ value_next 2 a.b l.i (omega arith) a.part.now (offset_of 947) (omega arith)

@@ -1,13 +1,13 @@
--- By how the last record came out.
-use Rattle.codes.proofs.Put.{put_none}
+-- `x`, and the number of what ended it.
+use mathlib.Core.Path.{◌≡◌, ap, ◌∙◌}
+use lib.Dec.{lit≤}
+use Rattle.std.specs.Prelude.{Err}
+use Rattle.season.specs.declared.Stop.TheVariants.{Over}
 use Rattle.journal.specs.Text.{decimal}
-use mathlib.Core.Path.{sym}
-use native.Mathlib.Omega.{arith}
+use Rattle.journal.proofs.Pieces.{fitted}
 use Rattle.season.proofs.report.put_end.Goals as goal
 
-pub returns-in-Counted : goal.returns-in-Counted
-returns-in-Counted c = rw c.in-Counted.is (record { text_after = sym (put_none c.args.text.now _); value = (omega arith, omega arith) })
-
-pub returns-in-Over : goal.returns-in-Over
+pub returns-in-Err-Over : goal.returns-in-Err-Over
 unfolding decimal
-returns-in-Over c = rw c.in-Over.is (record { text_after = c.put_bytes-in-Over.ensures; value = (omega arith, omega arith) })
+returns-in-Err-Over c =
+    let e : c.args.last ≡ Err Over = c.in-Err-Over.is ∙ ap Err (rw c.in-Err-Over.is at c.in-Err-Over.field-0-is) in rw e (fitted 5 c.put_bytes-in-Err-Over.ensures (lit≤ tt) c.requires)

@@ -1,27 +1,16 @@
--- The numbers passed are put, each after a space.
-use Rattle.journal.proofs.Pieces.{Wrote, wrote_many, and_then, said, one_more}
-use Rattle.codes.proofs.Put.{put_none}
+-- One number more.
+use mathlib.Core.Path.{refl}
+use mathlib.Core.List.{◌∷◌}
+use Prim.Native.Nat.{ℕ}
+use native.Mathlib.Omega.{arith}
 use Rattle.journal.specs.Text.{decimal}
 use Rattle.journal.specs.Line.{space}
+use Rattle.journal.proofs.Pieces.{and_then, said, within, fitted, one_more}
 use Rattle.season.specs.Report.{spaced}
-use lib.ListN.{get_or}
-use Prim.Native.Nat.{ℕ}
-use mathlib.Core.Path.{refl, sym}
-use mathlib.Core.List.{◌∷◌}
-use native.Mathlib.Omega.{arith}
-use borrow.Author.Rules.{rules}
 use Rattle.season.proofs.report.put_spaced.Goals as goal
 
-pub loop-i-init : goal.loop-i-init
-loop-i-init c = let a = c.args in (search rules, omega arith, refl, record { same = sym (put_none a.text.now a.at); place = omega arith })
-
-pub loop-i-preserved : goal.loop-i-preserved
-loop-i-preserved c =
-    let a = c.args in
-    let l = c.loop-i in
-    let number : Wrote l.text l.next (space ∷ decimal (get_or a.numbers.now l.i 0)) _ _ = wrote_many c.put_spaced_number-next.ensures.line_after c.put_spaced_number-next.ensures.value.0 in (
-      omega arith,
-      omega arith,
-      omega arith,
-      said (and_then l.invariant.3 number (omega arith)) (one_more (λ (n : ℕ). space ∷ decimal n) spaced refl (λ n ns. refl) a.numbers.now l.i (omega arith)),
-    )
+pub loop-number-preserved : goal.loop-number-preserved
+loop-number-preserved c =
+    let l = c.loop-number in
+    let number = fitted 21 c.put_spaced_number.ensures.text_after (omega arith) (omega arith) in
+    within (said (and_then l.invariant number) (one_more (λ (n : ℕ). space ∷ decimal n) spaced refl (λ n ns. refl) c.args.numbers.now l.number-index (omega arith))) (omega arith)

@@ -1,14 +1,12 @@
 -- A part that is not well-formed, flags above 3, a quiet cycle, and any other that is done.
 use mathlib.Core.Path.{◌≡◌, sym, ap, ap₂, ◌∙◌}
 use mathlib.Core.Bool.{false, not}
-use mir.Syntax.{w16}
-use mir.ValLaws.{to_z-of_z}
 use Rattle.codes.proofs.Fixed.{Bytes}
 use Rattle.drive.specs.declared.CycleEnd.{CycleEnd}
 use Rattle.drive.specs.Cycle.{cycle_of}
 use Rattle.drive.specs.Motion.{with_faults, moved_of, quiet_of}
 use Rattle.part.specs.Record.{drive_of, put_motion, put_drive}
-use Rattle.station.specs.Cycle.{Sent, input_of, cycled}
+use Rattle.station.specs.Cycle.{input_of, cycled}
 use Rattle.station.proofs.Cycles.{unformed, flagged, loaded_whole, cycles, quiet_cycles}
 use borrow.Author.Rules.{rules}
 use Rattle.station.proofs.part_cycle.cycle_on.Goals as goal
@@ -16,38 +14,29 @@ use Rattle.station.proofs.part_cycle.cycle_on.Goals as goal
 pub returns-then-not-well_formed : goal.returns-then-not-well_formed
 returns-then-not-well_formed c =
     let a = c.args in
-    let w = c.well_formed-2 in
-    let o = unformed a.k (record { flags = a.flags; stw1 = a.stw1; nsoll = a.nsoll; nist = a.nist; fault = a.fault }) a.part.now (sym w.ensures ∙ c.if-not-well_formed.true) in
-    record { value = c.refused_cycle.ensures ∙ o.0; part_after = o.1 }
+    let o = unformed a.k a.sent a.part.now (sym c.well_formed-2.ensures ∙ c.if-not-well_formed.true) in
+    record { value = o.0; part_after = o.1 }
 
-pub returns-then-flags-gt3 : goal.returns-then-flags-gt3
-returns-then-flags-gt3 c =
+pub returns-then-sent-gt3 : goal.returns-then-sent-gt3
+returns-then-sent-gt3 c =
     let a = c.args in
-    let w = c.well_formed-2 in
-    let o = flagged a.k (record { flags = a.flags; stw1 = a.stw1; nsoll = a.nsoll; nist = a.nist; fault = a.fault }) a.part.now (sym w.ensures ∙ c.if-not-well_formed.false) c.if-flags-gt3.true in
-    record { value = c.refused_cycle-then-flags-gt3.ensures ∙ o.0; part_after = o.1 }
+    let o = flagged a.k a.sent a.part.now (sym c.well_formed-2.ensures ∙ c.if-not-well_formed.false) c.if-sent-gt3.true in
+    record { value = o.0; part_after = o.1 }
 
 pub returns-then-is_quiet : goal.returns-then-is_quiet
 returns-then-is_quiet c =
     let a = c.args in
-    let w = c.well_formed-2 in
-    let i : Sent = record { flags = a.flags; stw1 = a.stw1; nsoll = a.nsoll; nist = a.nist; fault = a.fault } in
     let bytes : Bytes a.part.now = λ n. search rules in
-    let h = c.ranges in
-    let input = rw (to_z-of_z w16 a.nsoll h.nsoll, to_z-of_z w16 a.nist h.nist) at c.input_of-i.ensures in
-    let motion = c.load_motion-m.ensures in
+    let input = c.input_of-input.ensures in
+    let motion = c.load_motion-motion.ensures in
     let empty = c.has_no_fault-empty.ensures in
     let quiet = sym (c.is_quiet.ensures ∙ (λ j. quiet_of (motion j).word (empty j) (input j))) ∙ c.if-is_quiet.true in
-    let o = quiet_cycles a.k i a.part.now (sym w.ensures ∙ c.if-not-well_formed.false) c.if-flags-gt3.false bytes quiet in
+    let o = quiet_cycles a.k a.sent a.part.now (sym c.well_formed-2.ensures ∙ c.if-not-well_formed.false) c.if-sent-gt3.false bytes quiet in
     let e = c.quiet_cycle.ensures in record { value = e.value ∙ ((λ j. cycled (moved_of (motion j) (not (empty j)) false (input j)).output) ∙ o.0); part_after = e.part_after ∙ ((λ j. put_motion (moved_of (motion j) (not (empty j)) false (input j)).motion a.part.now) ∙ o.1) }
 
 pub returns : goal.returns
 returns c =
     let a = c.args in
-    let w = c.well_formed-2 in
-    let i : Sent = record { flags = a.flags; stw1 = a.stw1; nsoll = a.nsoll; nist = a.nist; fault = a.fault } in
-    let h = c.ranges in
-    let input = rw (to_z-of_z w16 a.nsoll h.nsoll, to_z-of_z w16 a.nist h.nist) at c.input_of-i.ensures in
-    let o = cycles a.k i a.part.now (sym w.ensures ∙ c.if-not-well_formed.false) c.if-flags-gt3.false in
-    let e : c.cycle_lent-c.result ≡ cycle_of (drive_of a.part.now) (input_of i a.part.now) = c.cycle_lent-c.ensures ∙ ap₂ cycle_of (c.with_faults.ensures ∙ (ap₂ with_faults c.load_motion-m.ensures c.load_faults.ensures ∙ loaded_whole a.part.now)) input in
+    let o = cycles a.k a.sent a.part.now (sym c.well_formed-2.ensures ∙ c.if-not-well_formed.false) c.if-sent-gt3.false in
+    let e : c.cycle_lent-done.result ≡ cycle_of (drive_of a.part.now) (input_of a.sent a.part.now) = c.cycle_lent-done.ensures ∙ ap₂ cycle_of (ap₂ with_faults c.load_motion-motion.ensures c.load_faults.ensures ∙ loaded_whole a.part.now) c.input_of-input.ensures in
     record { value = c.answered.ensures ∙ (ap (λ (x : CycleEnd). cycled x.output) e ∙ o.0); part_after = c.store.ensures ∙ (ap (λ (x : CycleEnd). put_drive x.drive a.part.now) e ∙ o.1) }

@@ -1,12 +1,24 @@
--- The block is worked; a refusal of it or the acknowledgement is put.
-use mathlib.Core.Path.{◌∙◌}
+-- The block is worked; a refusal of it is handed on, under its number.
+use mathlib.Core.Path.{ap, ◌∙◌}
+use Rattle.std.proofs.lemmas.Result.{err_from_is_err_and}
+use Rattle.std.specs.Prelude.{Result}
+use Rattle.station.specs.declared.Framed.{Framed}
+use Rattle.station.specs.declared.refusal.Refusal.{Refusal}
+use Rattle.station.specs.Refusal.{refusal_number}
+use Rattle.station.specs.Inner.{told, denied, reply_told}
+use Rattle.station.proofs.Answers.{some_number}
 use Rattle.station.proofs.Frames.{rest_of, block_refused}
 use Rattle.station.proofs.part_frame.write_on.Goals as goal
 
-pub returns-then-w-ne0 : goal.returns-then-w-ne0
-returns-then-w-ne0 c =
+pub returns-in_err-stored : goal.returns-in_err-stored
+returns-in_err-stored c =
     let a = c.args in
-    let w = rw (rest_of a.f.now) at c.work-w.ensures in
-    let o = block_refused a.k a.f.now a.reply.now a.part.now c.work-w.result.number w.0 c.if-w-ne0.true in
-    let r = c.refuse.ensures in
-    record { value = r.value ∙ o.0; reply_after = r.reply_after ∙ o.1; part_after = w.2 }
+    let r : Result Framed Refusal = c.from_residual.result in
+    let p = err_from_is_err_and r c.from_residual.ensures.1 in
+    let w = rw (rest_of a.f.now) at c.in_err-stored.ensures in
+    let o = block_refused a.k a.f.now a.reply.now a.part.now (refusal_number p.0) (p.2 ∙ w.0) (some_number p.0) in
+    record {
+      value = ap (told (denied a.f.now)) p.1 ∙ o.0;
+      reply_after = ap (reply_told a.f.now a.reply.now) p.1 ∙ o.1;
+      part_after = w.2;
+    }

@@ -9,24 +9,19 @@ use Rattle.station.proofs.part_versions.go_back_on.Goals as goal
 pub returns-then-not-well_formed : goal.returns-then-not-well_formed
 returns-then-not-well_formed c =
     let a = c.args in
-    let w = c.well_formed-2 in
-    let o = unformed a.k a.version a.part.now (sym w.ensures ∙ c.if-not-well_formed.true) in
-    record { value = c.refused_return.ensures ∙ o.0; part_after = o.1 }
-
-pub slice_bounds-is_kept-count : goal.slice_bounds-is_kept-count
-unfolding parameter_bytes rows
-slice_bounds-is_kept-count c =
-    let a = c.args in
-    let w = c.well_formed-2 in
-    let room = has_versions a.k a.part.now (sym w.ensures ∙ c.if-not-well_formed.false) in
-    search rules
+    let o = unformed a.k a.version a.part.now (sym c.well_formed-2.ensures ∙ c.if-not-well_formed.true) in
+    record { value = o.0; part_after = o.1 }
 
 pub slice_bounds-is_kept-start : goal.slice_bounds-is_kept-start
 unfolding parameter_bytes rows
 slice_bounds-is_kept-start c =
-    let a = c.args in
-    let w = c.well_formed-2 in
-    let room = has_versions a.k a.part.now (sym w.ensures ∙ c.if-not-well_formed.false) in
+    let room = has_versions c.args.k c.args.part.now (sym c.well_formed-2.ensures ∙ c.if-not-well_formed.false) in
+    search rules
+
+pub slice_bounds-is_kept-count : goal.slice_bounds-is_kept-count
+unfolding parameter_bytes rows
+slice_bounds-is_kept-count c =
+    let room = has_versions c.args.k c.args.part.now (sym c.well_formed-2.ensures ∙ c.if-not-well_formed.false) in
     search rules
 
 pub returns-then-not-is_kept : goal.returns-then-not-is_kept
@@ -34,24 +29,19 @@ unfolding parameter_bytes rows
 returns-then-not-is_kept c =
     let a = c.args in
     let p = a.part.now in
-    let kept = c.is_kept in
-    let o = unkept a.k a.version p (sym c.well_formed-2.ensures ∙ c.if-not-well_formed.false) (sym (rw (versions_lent p) at kept.ensures) ∙ c.if-not-is_kept.true) in
-    record { value = c.refused_return-then-not-is_kept.ensures ∙ o.0; part_after = o.1 }
-
-pub slice_bounds-last_used-count : goal.slice_bounds-last_used-count
-unfolding parameter_bytes rows
-slice_bounds-last_used-count c =
-    let a = c.args in
-    let w = c.well_formed-2 in
-    let room = has_versions a.k a.part.now (sym w.ensures ∙ c.if-not-well_formed.false) in
-    search rules
+    let o = unkept a.k a.version p (sym c.well_formed-2.ensures ∙ c.if-not-well_formed.false) (sym (rw (versions_lent p) at c.is_kept.ensures) ∙ c.if-not-is_kept.true) in
+    record { value = o.0; part_after = o.1 }
 
 pub slice_bounds-last_used-start : goal.slice_bounds-last_used-start
 unfolding parameter_bytes rows
 slice_bounds-last_used-start c =
-    let a = c.args in
-    let w = c.well_formed-2 in
-    let room = has_versions a.k a.part.now (sym w.ensures ∙ c.if-not-well_formed.false) in
+    let room = has_versions c.args.k c.args.part.now (sym c.well_formed-2.ensures ∙ c.if-not-well_formed.false) in
+    search rules
+
+pub slice_bounds-last_used-count : goal.slice_bounds-last_used-count
+unfolding parameter_bytes rows
+slice_bounds-last_used-count c =
+    let room = has_versions c.args.k c.args.part.now (sym c.well_formed-2.ensures ∙ c.if-not-well_formed.false) in
     search rules
 
 pub returns-then-last : goal.returns-then-last
@@ -62,7 +52,7 @@ returns-then-last c =
     let last = c.last_used-last in
     let kept = sym (rw (versions_lent p) at c.is_kept.ensures) ∙ c.if-not-is_kept.false in
     let o = exhausted a.k a.version p (sym c.well_formed-2.ensures ∙ c.if-not-well_formed.false) kept last.result (rw (versions_lent p) at last.ensures) c.if-last.true in
-    record { value = c.refused_return-then-last.ensures ∙ o.0; part_after = o.1 }
+    record { value = o.0; part_after = o.1 }
 
 pub returns : goal.returns
 unfolding parameter_bytes rows
