@@ -1,8 +1,7 @@
 // Formats, their sizes, and which blocks may stand where.
 ghost use Rattle.std.specs.Prelude.{◌≡◌, false, ◌&&◌, ◌*◌, ◌≤◌, leb};
 ghost use Rattle.blocks.specs.Block.{format_size, value_size, code_size, value_fits, error_fits, empty_fits, response_block_fits, fill_size};
-ghost use Rattle.blocks.specs.Request.{request_blocks};
-ghost use Rattle.blocks.specs.Response.{response_blocks, is_answer};
+ghost use Rattle.blocks.specs.Response.{is_answer};
 
 // Bytes of one value of a data type; 0 where f is none.
 #[tactic(auto, unfolding(crate::specs::Block::format_size))]
@@ -94,7 +93,7 @@ fn empty_fits(f: u8, n: u8) -> bool
 }
 
 // Whether a block of format f with n values may stand in a response with the identifier `id`. By ifs on it, and `|`, which the compiler takes
-// out of the walk over blocks: by a match and `||` a check of 39 reads takes 2,344 instructions, as it is 2,072, and plain C 2,119.
+// out of the walk over blocks: by a match and `||` a check of 39 reads takes 272 instructions more, and as it is 2 fewer than plain C's.
 #[tactic(auto, unfolding(crate::specs::Block::response_block_fits))]
 pub fn response_block_fits(id: u8, f: u8, n: u8) -> bool
     ensures { result ≡ response_block_fits id f n }
@@ -108,20 +107,6 @@ pub fn response_block_fits(id: u8, f: u8, n: u8) -> bool
     } else {
         empty_fits(f, n) | error
     }
-}
-
-#[tactic(auto, unfolding(crate::specs::Request::request_blocks))]
-pub fn request_blocks(id: u8, n: u8) -> usize
-    ensures { result ≡ request_blocks id n }
-{
-    if id == 2 { usize::from(n) } else { 0 }
-}
-
-#[tactic(auto, unfolding(crate::specs::Response::response_blocks))]
-pub fn response_blocks(id: u8, n: u8) -> usize
-    ensures { result ≡ response_blocks id n }
-{
-    if id == 2 { 0 } else { usize::from(n) }
 }
 
 pub fn is_request(id: u8) -> bool

@@ -201,13 +201,9 @@ fn whole(s: &[u8], reached: Option<Reached>, need: bool) -> bool
 fn framed(block: &[u8]) -> bool
     ensures { IsTrue result ↔ Framed block.now }
 {
-    if BLOCK_LIMIT < block.len() {
-        return false;
-    }
-    let [reference, _, _, count, ..] = *block else {
-        return false;
-    };
-    reference != 0 && (1..=MOST_PARAMETERS).contains(&count)
+    (4..=BLOCK_LIMIT).contains(&block.len())
+        && block[0] != 0
+        && (1..=MOST_PARAMETERS).contains(&block[3])
 }
 
 // Whether `block` is a readable request.
@@ -226,9 +222,13 @@ pub fn request_readable(block: &[u8]) -> bool
     if block.len() < from {
         return false;
     }
+    // A read ends with its addresses; a change goes on with a block for each.
+    if id != 2 {
+        return from == block.len();
+    }
     whole(
         block,
-        blocks_end(Change, block, from, layout::request_blocks(id, n)),
+        blocks_end(Change, block, from, usize::from(n)),
         false,
     )
 }
@@ -245,10 +245,14 @@ pub fn response_readable(block: &[u8]) -> bool
     if !layout::is_answer(id) {
         return false;
     }
+    // 02 ends with its header.
+    if id == 2 {
+        return 4 == block.len();
+    }
     let rule = Answer { identifier: id };
     whole(
         block,
-        blocks_end(rule, block, 4, layout::response_blocks(id, n)),
+        blocks_end(rule, block, 4, usize::from(n)),
         0x81 <= id,
     )
 }

@@ -7,7 +7,7 @@ ghost use Rattle.checker.specs.Check.{matching, count_fits, counts_fit, compared
 ghost use Rattle.checker.specs.Inner.{BothRead, BothCount, AsRead};
 
 // What a check comes to: a yes, or the first of the checks of R-4 that failed, in their order; `as u8` gives its number. One enum, and no Result
-// over the seven: that is handed on in two registers, and so a check of 18 elements takes 282 instructions, as it is 265, and plain C 272.
+// over the seven: that is handed on in two registers, which costs each check 17 instructions, and a check of one read is 2 below plain C's.
 #[derive(Clone, Copy, Debug, PartialEq, Eq)]
 pub enum Verdict {
     Yes,
