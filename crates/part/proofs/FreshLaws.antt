@@ -11,7 +11,7 @@ use Rattle.codes.specs.Code.{word}
 use Rattle.codes.specs.Number.{put}
 use Rattle.catalogue.specs.declared.Row.{Row}
 use Rattle.catalogue.specs.Table.{rows, no_row, row_at}
-use Rattle.catalogue.specs.Element.{put_element, fresh_of}
+use Rattle.catalogue.specs.Element.{fresh_of}
 use Rattle.catalogue.proofs.Elements.{element_length}
 use Rattle.versions.specs.Keep.{filled_within}
 use Rattle.part.specs.Layout.{state_at, versions_at, part_size}
@@ -21,9 +21,6 @@ module _ (r : Row) where
   pub elements_length : (n : ℕ) (p : List ℕ) → length (fresh_elements r n p) ≡ length p
   elements_length zero p = refl
   elements_length (suc n) p = element_length r n (fresh_of r n) (fresh_elements r n p) ∙ elements_length n p
-
-  pub elements_next : (i : ℕ) (p : List ℕ) → put_element r i (fresh_of r i) (fresh_elements r i p) ≡ fresh_elements r (i + 1) p
-  elements_next i p = rw (add-one i)
 
 pub rows_length : (rs : List Row) (p : List ℕ) → length (fresh_rows rs p) ≡ length p
 rows_length [] p = refl

@@ -69,9 +69,6 @@ drop_words (suc k) (suc n) p at h =
     let f : n - k ≡ suc n - suc k = omega arith in
     drop_words k n p (at + 2) (omega arith) ∙ (ap (words_at (n - k) p) e ∙ ap (λ (j : ℕ). words_at j p (at + suc k * 2)) f)
 
-pub words_within : (j k n : ℕ) (p : List ℕ) (at : ℕ) → k + j ≤ n → take j (drop k (words_at n p at)) ≡ words_at j p (at + k * 2)
-words_within j k n p at h = ap (take j) (drop_words k n p at (omega arith)) ∙ take_words j (n - k) p (at + k * 2) (omega arith)
-
 abbrev pub Words : List ℕ → Type 0
 Words = AllOf (λ (x : ℕ). x < 65536)
 
