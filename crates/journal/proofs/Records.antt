@@ -147,6 +147,10 @@ module _ (r s : List ℕ) where
   pub comes_of : (k : Option Kind) → k ≡ kind_of r → ComesOf k
   comes_of k e = let P : Option Kind → Type 0 = ComesOf in subst P (sym (e ∙ kind_tests r)) (by_tests (is_cycle r) (is_return r) (is_frame r) refl refl refl)
 
+-- the same of the kind that an arm has found
+pub found : (r s : List ℕ) {o : Option Kind} {j k : Kind} → o ≡ kind_of r → o ≡ Some j → j ≡ k → ComesOf r s (Some k)
+found r s {k = k} e some is = comes_of r s (Some k) (ap Some (sym is) ∙ (sym some ∙ e))
+
 -- bytes are a record where they are of a kind
 pub record_kinds : (r : List ℕ) → is_some (kind_of r) ≡ is_record r
 record_kinds r = go (kind_of r) refl
