@@ -1,6 +1,5 @@
 -- What is read there, or nothing.
 use mathlib.Core.Path.{sym, ap}
-use Prim.Native.Nat.{ℕ}
 use native.Mathlib.Omega.{arith}
 use Rattle.codes.specs.Number.{value_or}
 use Rattle.codes.proofs.Fixed.{Bytes}
