@@ -50,8 +50,8 @@ fn value_here(k: Kind, s: &[u8], at: usize) -> i32
     match k {
         Kind::U8 => s[at] as i32,
         Kind::U16 => (s[at] as i32) * 256 + (s[at + 1] as i32),
-        Kind::I16 => codes::signed16((s[at] as u16) * 256 + (s[at + 1] as u16)) as i32,
-        Kind::I32 => codes::signed32(codes::number_at(s, at, 4)),
+        Kind::I16 => ((s[at] as u16) * 256 + (s[at + 1] as u16)).cast_signed() as i32,
+        Kind::I32 => codes::number_at(s, at, 4).cast_signed(),
     }
 }
 

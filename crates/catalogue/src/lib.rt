@@ -358,8 +358,8 @@ pub fn value_of(k: Kind, x: u32) -> i32
     match k {
         Kind::U8 => (x % 256) as i32,
         Kind::U16 => (x % 65536) as i32,
-        Kind::I16 => codes::signed16((x % 65536) as u16) as i32,
-        Kind::I32 => codes::signed32(x),
+        Kind::I16 => ((x % 65536) as u16).cast_signed() as i32,
+        Kind::I32 => x.cast_signed(),
     }
 }
 

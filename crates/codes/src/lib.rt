@@ -1,34 +1,9 @@
-// Numbers in byte slices, high byte first, and tests that the codecs share.
+// Numbers in byte slices, high byte first.
 #![tactic(auto)]
 
-ghost use Rattle.std.specs.Prelude.{◌≡◌, [], ◌&&◌, ◌||◌, ◌↔◌, ◌+◌, ◌≤◌, IsTrue, length, leb};
+ghost use Rattle.std.specs.Prelude.{◌≡◌, [], ◌↔◌, ◌+◌, ◌≤◌, IsTrue, length};
 ghost use Rattle.codes.specs.Code.{got, word};
-ghost use Rattle.codes.specs.Number.{number_at, put, signed_of, bits_of};
-
-pub fn wide(x: u8) -> usize
-    ensures { result ≡ x }
-{
-    usize::from(x)
-}
-
-fn wide32(x: u8) -> u32
-    ensures { result ≡ x }
-{
-    u32::from(x)
-}
-
-pub fn either(a: bool, b: bool) -> bool
-    ensures { result ≡ (a || b) }
-{
-    a || b
-}
-
-// Both limits are included.
-pub fn between(low: u8, x: u8, high: u8) -> bool
-    ensures { result ≡ (leb low x && leb x high) }
-{
-    (low..=high).contains(&x)
-}
+ghost use Rattle.codes.specs.Number.{number_at, put};
 
 // Whether w bytes stand at `at` in a slice of `len` bytes.
 pub fn stands(len: usize, at: usize, w: usize) -> bool
@@ -95,30 +70,4 @@ pub fn put_bytes(out: &mut [u8], at: usize, from: &[u8])
     if stands(out.len(), at, from.len()) {
         out[at..at + from.len()].copy_from_slice(from);
     }
-}
-
-// The signed number that two bytes stand for.
-pub fn signed16(x: u16) -> i16
-    ensures { result ≡ signed_of 2 x }
-{
-    x.cast_signed()
-}
-
-pub fn bits16(v: i16) -> u16
-    ensures { result ≡ bits_of 2 v }
-{
-    v.cast_unsigned()
-}
-
-// The signed number that four bytes stand for.
-pub fn signed32(x: u32) -> i32
-    ensures { result ≡ signed_of 4 x }
-{
-    x.cast_signed()
-}
-
-pub fn bits32(v: i32) -> u32
-    ensures { result ≡ bits_of 4 v }
-{
-    v.cast_unsigned()
 }

@@ -7,7 +7,7 @@ use mir.Syntax.{w16, w32}
 use mir.Val.{SFits}
 use Rattle.codes.specs.Number.{number_at}
 use Rattle.codes.proofs.Fixed.{Bytes}
-use Rattle.codes.proofs.Signed.{signed_fits}
+use Rattle.codes.proofs.Signed.{cast_signed_is, signed_fits}
 use Rattle.drive.proofs.Signed.{widened}
 use Rattle.catalogue.specs.declared.Kind.{Kind}
 use Rattle.catalogue.specs.Table.{element_size}
@@ -38,6 +38,6 @@ returns-in-I16 c =
     let y : Bytes s = λ i. omega (arith, c.type_inv.s i) in
     let told = c.in-I16.is in
     let n = get_or s a.at 0 * 256 + get_or s (a.at + 1) 0 in
-    let e = c.signed16.ensures in
+    let e = c.cast_signed.ensures ∙ cast_signed_is 2 w16 refl n (omega (arith, y a.at, y (a.at + 1))) in
     widened w32 tt (subst (SFits w16) (sym e) (signed_fits 2 w16 refl n (omega (arith, y a.at, y (a.at + 1)))))
     ∙ (e ∙ (two_signed s y a.at (rw told at c.requires) ∙ ap (λ (k : Kind). value_of k (number_at (element_size k) s a.at)) (sym told)))
