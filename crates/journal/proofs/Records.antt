@@ -27,14 +27,6 @@ use Rattle.journal.specs.Kinds.{kind_by, clear_past_frame, kind_in, kind_of}
 use Rattle.journal.specs.History.{acted_by, acted_of}
 use Rattle.journal.specs.Laws.{MergedRecords, ReturnRecords, NoneLists}
 
--- bytes joined are 0 where each is
-join_both : (a b : ℕ) → eqb (bit_or a b) 0 ≡ (eqb a 0 && eqb b 0)
-join_both a b = cases (eqb a 0) (λ e. rw (eqb-true a 0 e)) (λ n. rw n (ne_eqb (bit_or a b) 0 (λ z. eqb-false a 0 n (omega (arith, or_add_and a b, and_le_r a b)))))
-
-pub joined : (a : ℕ) (s : List ℕ) → eqb (fold bit_or a s) 0 ≡ (eqb a 0 && zeros s)
-joined a [] = sym (and-true (eqb a 0))
-joined a (x ∷ s) = joined (bit_or a x) s ∙ (ap (λ (b : Bool). b && zeros s) (join_both a x) ∙ and_assoc (eqb a 0) (eqb x 0) (zeros s))
-
 -- a record of a kind that tests nothing else
 module _ (size kind : ℕ) (r : List ℕ) (h : eqb (length r) size && eqb (get_or r 0 0) kind ≡ true) where
   sized : length r ≡ size

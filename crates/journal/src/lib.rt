@@ -16,7 +16,7 @@ mod record; // record.rt: which bytes are a record, and of which kind
 mod writing; // writing.rt: text, written in memory that is lent
 
 pub use record::{longest_record, next_length, record_length};
-pub use writing::Text;
+pub use writing::{Text, put_spaced_number};
 
 // Room for any line: a letter, two numbers of at most ten digits, three spaces, 244 bytes in hex, and the line's end.
 pub const LINE: usize = 513;

@@ -1,6 +1,5 @@
 // Which bytes are a record, and of which kind.
 ghost use Rattle.std.specs.Prelude.{◌≡◌, ◌≤◌, length};
-ghost use Rattle.drive.specs.Faults.{zeros};
 ghost use Rattle.journal.specs.Line.{record_length, longest_record, next_record};
 ghost use Rattle.journal.specs.Kinds.{clear_past_frame, kind_of};
 
@@ -81,20 +80,13 @@ pub fn longest_record() -> usize
     FRAME
 }
 
-// Whether every byte is 0: no early exit, so that many are joined at a time.
-fn is_zero(bytes: &[u8]) -> bool
-    ensures { result ≡ zeros bytes.now }
-{
-    bytes.iter().fold(0, |seen, byte| seen | *byte) == 0
-}
-
 // Whether a frame's length is one, and every byte past the frame is 0.
 fn is_clear(bytes: &[u8]) -> bool
     requires { length bytes.now ≡ 247 }
     ensures { result ≡ clear_past_frame bytes.now }
 {
     let n = usize::from(bytes[2]);
-    n <= FRAME_ROOM && is_zero(&bytes[FRAME_HEAD + n..])
+    n <= FRAME_ROOM && part::is_clear(&bytes[FRAME_HEAD + n..])
 }
 
 // The kind of a record; none where the bytes are no record.

@@ -2,6 +2,7 @@
 ghost use Rattle.std.specs.Prelude.{◌≡◌, ◌∷◌, ◌++◌, ◌≤◌, ◌<◌, length, drop};
 ghost use Rattle.journal.specs.Text.{digit, decimal};
 ghost use Rattle.journal.specs.Line.{space};
+ghost use Rattle.codes.specs.Number.{put};
 
 // The most digits of a number of 32 bits, and of 64, less one.
 const DIGITS_32: usize = 9;
@@ -151,4 +152,15 @@ fn spaced_number(memory: &mut [u8; NUMBER], x: u64) -> usize
     text.put_byte(SPACE);
     text.put_decimal_in(DIGITS_64, x);
     text.len()
+}
+
+// A space and a number, at a place of a line of any kind; nothing where they do not all fit. Answers how many bytes they are.
+pub fn put_spaced_number(line: &mut [u8], at: usize, x: u64) -> usize
+    ensures line_after { line.new ≡ put line.old at (space ∷ decimal x) }
+    ensures value { (result ≡ length (space ∷ decimal x)) × (result ≤ 21) }
+{
+    let mut piece = [0u8; NUMBER];
+    let n = spaced_number(&mut piece, x);
+    codes::put_bytes(line, at, &piece[..n]);
+    n
 }

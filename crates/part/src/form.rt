@@ -106,7 +106,7 @@ fn waiting_fits(part: &Part, axis: u8) -> bool
     if n == 0 {
         return true;
     }
-    let block = super::waiting(part);
+    let block = super::response::waiting(part);
     usize::from(n) <= blocks::BLOCK_LIMIT
         && blocks::response_readable(block)
         && blocks::header_of(block).axis == axis
@@ -120,7 +120,7 @@ fn unused_fits(part: &Part) -> bool
     if super::waiting_length(part) == 0 {
         return runs::is_clear(&part[super::RESPONSE..super::VERSIONS]);
     }
-    let start = super::RESPONSE + super::waiting(part).len();
+    let start = super::RESPONSE + super::response::waiting(part).len();
     runs::is_clear(&part[start..super::VERSIONS])
 }
 

@@ -11,7 +11,7 @@ pub fn waiting_length(part: &[u8]) -> u8
 }
 
 // The bytes that wait.
-pub fn waiting(part: &[u8]) -> &[u8]
+pub(crate) fn waiting(part: &[u8]) -> &[u8]
     requires { versions_at ≤ length part.now }
     ensures { result.now ≡ waiting part.now }
 {

@@ -10,7 +10,7 @@ pub(crate) fn join_all(s: &[u8]) -> u8
 }
 
 // Whether every byte is 0.
-pub(crate) fn is_clear(s: &[u8]) -> bool
+pub fn is_clear(s: &[u8]) -> bool
     ensures { result ≡ zeros s.now }
 {
     join_all(s) == 0

@@ -16,6 +16,6 @@ returns-then-n-le-FRAME_ROOM c =
     let r = c.args.bytes.now in
     let at = 3 + c.from-n.result in
     let fits : leb (frame_length r) 244 ≡ true = le-leb (frame_length r) 244 (omega (arith, c.from-n.ensures)) in
-    c.is_zero.ensures
+    c.is_clear.ensures
     ∙ (ap zeros (take_rest r at)
     ∙ (ap (λ (k : ℕ). zeros (drop (3 + k) r)) c.from-n.ensures ∙ sym (ap (λ (b : Bool). b && zeros (drop (3 + frame_length r) r)) fits)))
