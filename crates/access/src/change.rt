@@ -18,7 +18,8 @@ use blocks::reader::{Address, FIRST, SIZE, address_of};
 use blocks::{Head, Header};
 use catalogue::{Kind, Row};
 
-// Where the values of a block stand: the place of the first, the bytes of each, and how many there are.
+// Where the values of a block stand: the place of the first, the bytes of each, and how many there are. The block stays a parameter
+// beside it: with the slice in the struct the proof of `store` did not close, as it is not known there that its numbers are bytes.
 #[derive(Clone, Copy)]
 pub struct Values {
     pub at: usize,

@@ -1,13 +1,13 @@
 -- Readability of a whole block, case by case as the code tests it.
-use mathlib.Core.Path.{◌≡◌, refl, sym, ap}
+use mathlib.Core.Path.{◌≡◌, refl, sym, ◌∙◌, ap}
 use mathlib.Core.List.{List, [], ◌∷◌}
 use mathlib.Core.Bool.{Bool, true, false, true≢false, cond, not, ◌&&◌, ◌||◌}
 use Prim.Native.Nat.{ℕ, ◌+◌, ◌*◌, ◌≤◌, ◌<◌}
 use native.Mathlib.Omega.{arith}
 use lib.ListN.{length, get_or, drop}
-use lib.Dec.{leb}
+use lib.Dec.{eqb, leb}
 use native.Mathlib.Decide.{dec_le}
-use borrow.Author.Tests.{le-leb, lt-leb, leb-true}
+use borrow.Author.Tests.{le-leb, lt-leb, leb-true, eq-eqb, ne_eqb}
 use borrow.Table.Steps.{cases}
 use Rattle.codes.specs.Code.{Got, got, bad, Code, and_then, read_times, times, is_whole, reads_all}
 use Rattle.blocks.specs.Block.{block_limit, Block, change_block_fits, response_block_fits, block}
@@ -19,6 +19,7 @@ use Rattle.codes.proofs.Sound.{Sound, read_iff_written}
 use Rattle.blocks.proofs.Sound.{request_sound, response_sound}
 use Rattle.codes.proofs.Fixed.{Bytes, byte_at, Fixed, fixed_times}
 use Rattle.blocks.proofs.Addresses.{fixed_address}
+use Rattle.blocks.proofs.Turns.{met}
 
 and-false : (a : Bool) → a && false ≡ false
 and-false true = refl
@@ -197,8 +198,33 @@ module _ (s : List ℕ) (b : Bytes s) (w : Framed s) where
     pub request_addresses : length s < 4 + get_or s 3 0 * 6 → false ≡ readable block_limit request s
     request_addresses = request_room s b w.long reference e number
 
-    pub request_end : 4 + get_or s 3 0 * 6 ≤ length s → (g : Got Bool) → g ≡ map_got has_error (read_times (block change_block_fits).read (request_blocks (get_or s 1 0) (get_or s 3 0)) (drop (4 + get_or s 3 0 * 6) s)) → is_whole (erring false g) ≡ readable block_limit request s
+    request_end : 4 + get_or s 3 0 * 6 ≤ length s → (g : Got Bool) → g ≡ map_got has_error (read_times (block change_block_fits).read (request_blocks (get_or s 1 0) (get_or s 3 0)) (drop (4 + get_or s 3 0 * 6) s)) → is_whole (erring false g) ≡ readable block_limit request s
     request_end = request_whole s b w.long reference e number w.short
 
-  pub response_end : is_answer (get_or s 1 0) ≡ true → (g : Got Bool) → g ≡ map_got has_error (read_times (block (response_block_fits (get_or s 1 0))).read (response_blocks (get_or s 1 0) (get_or s 3 0)) (drop 4 s)) → is_whole (erring (leb 0x81 (get_or s 1 0)) g) ≡ readable block_limit response s
+    -- a read ends with its addresses, and a change goes on with as many blocks
+    pub read_end : (get_or s 1 0 ≡ 2 → ⊥) → 4 + get_or s 3 0 * 6 ≤ length s → eqb (4 + get_or s 3 0 * 6) (length s) ≡ readable block_limit request s
+    unfolding request_blocks has_error
+    read_end other l =
+        met s (record { at = 4 + get_or s 3 0 * 6; error = false }) false l refl
+        ∙ request_end l (got false (drop (4 + get_or s 3 0 * 6) s)) (rw (ne_eqb (get_or s 1 0) 2 other) refl)
+
+    pub change_end : get_or s 1 0 ≡ 2 → 4 + get_or s 3 0 * 6 ≤ length s → (g : Got Bool) → g ≡ map_got has_error (read_times (block change_block_fits).read (get_or s 3 0) (drop (4 + get_or s 3 0 * 6) s)) → is_whole (erring false g) ≡ readable block_limit request s
+    unfolding request_blocks
+    change_end two l g q = request_end l g (rw (eq-eqb (get_or s 1 0) 2 two) q)
+
+  response_end : is_answer (get_or s 1 0) ≡ true → (g : Got Bool) → g ≡ map_got has_error (read_times (block (response_block_fits (get_or s 1 0))).read (response_blocks (get_or s 1 0) (get_or s 3 0)) (drop 4 s)) → is_whole (erring (leb 0x81 (get_or s 1 0)) g) ≡ readable block_limit response s
   response_end e = response_whole s b w.long reference e number w.short
+
+  -- 02 ends with its header, and another answer goes on with as many blocks
+  pub header_end : is_answer (get_or s 1 0) ≡ true → get_or s 1 0 ≡ 2 → eqb 4 (length s) ≡ readable block_limit response s
+  unfolding response_blocks has_error
+  header_end e two =
+      met s (record { at = 4; error = false }) false w.long refl
+      ∙ (same ∙ response_end e (got false (drop 4 s)) (rw (eq-eqb (get_or s 1 0) 2 two) refl))
+    where
+      same : is_whole (erring false (got false (drop 4 s))) ≡ is_whole (erring (leb 0x81 (get_or s 1 0)) (got false (drop 4 s)))
+      same = rw two refl
+
+  pub answer_end : is_answer (get_or s 1 0) ≡ true → (get_or s 1 0 ≡ 2 → ⊥) → (g : Got Bool) → g ≡ map_got has_error (read_times (block (response_block_fits (get_or s 1 0))).read (get_or s 3 0) (drop 4 s)) → is_whole (erring (leb 0x81 (get_or s 1 0)) g) ≡ readable block_limit response s
+  unfolding response_blocks
+  answer_end e other g q = response_end e g (rw (ne_eqb (get_or s 1 0) 2 other) q)

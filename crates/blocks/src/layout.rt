@@ -1,8 +1,7 @@
 // Formats, their sizes, and which blocks may stand where.
 ghost use Rattle.std.specs.Prelude.{◌≡◌, false, ◌&&◌, ◌*◌, ◌≤◌, leb};
 ghost use Rattle.blocks.specs.Block.{format_size, value_size, code_size, value_fits, error_fits, empty_fits, response_block_fits, fill_size};
-ghost use Rattle.blocks.specs.Request.{request_blocks};
-ghost use Rattle.blocks.specs.Response.{response_blocks, is_answer};
+ghost use Rattle.blocks.specs.Response.{is_answer};
 
 // Bytes of one value of a data type; 0 where f is none.
 #[tactic(auto, unfolding(crate::specs::Block::format_size))]
@@ -31,18 +30,22 @@ pub fn code_size(f: u8) -> usize
     }
 }
 
-// Bytes of one value, by its format; 0 where there is no such format. Most values are words; codes and types are two dense tables.
-#[tactic(auto, unfolding(crate::specs::Block::format_size))]
+// Bytes of one value, by its format; 0 where there is no such format. Most values are words, so these come first and not in one match: that is
+// a jump by a table. Codes and types are two dense tables.
+#[tactic(auto, using(crate::proofs::Formats::value_format, crate::proofs::Formats::code_value, crate::proofs::Blocks::format_small), unfolding(crate::specs::Block::format_size))]
 pub fn format_size(f: u8) -> usize
     ensures { (result ≡ format_size f) × (result ≤ 4) }
 {
+    if f == 0x42 {
+        return 2;
+    }
     match f {
-        0x42 => 2,
         0x41..=0x43 => code_size(f),
         _ => type_size(f),
     }
 }
 
+#[tactic(auto, using(crate::proofs::Formats::value_format, crate::proofs::Formats::code_value))]
 pub fn value_size(f: u8) -> usize
     ensures { result ≡ value_size f }
 {
@@ -89,30 +92,21 @@ fn empty_fits(f: u8, n: u8) -> bool
     f == 0x40 && n == 0
 }
 
-// Whether a block of format f with n values may stand in a response with the identifier `id`.
+// Whether a block of format f with n values may stand in a response with the identifier `id`. By ifs on it, and `|`, which the compiler takes
+// out of the walk over blocks: by a match and `||` a check of 39 reads takes 272 instructions more, and as it is 2 fewer than plain C's.
 #[tactic(auto, unfolding(crate::specs::Block::response_block_fits))]
 pub fn response_block_fits(id: u8, f: u8, n: u8) -> bool
     ensures { result ≡ response_block_fits id f n }
 {
-    match id {
-        1 => value_fits(f, n),
-        0x81 => value_fits(f, n) || error_fits(f, n),
-        _ => empty_fits(f, n) || error_fits(f, n),
+    if id == 1 {
+        return value_fits(f, n);
     }
-}
-
-#[tactic(auto, unfolding(crate::specs::Request::request_blocks))]
-pub fn request_blocks(id: u8, n: u8) -> usize
-    ensures { result ≡ request_blocks id n }
-{
-    if id == 2 { usize::from(n) } else { 0 }
-}
-
-#[tactic(auto, unfolding(crate::specs::Response::response_blocks))]
-pub fn response_blocks(id: u8, n: u8) -> usize
-    ensures { result ≡ response_blocks id n }
-{
-    if id == 2 { 0 } else { usize::from(n) }
+    let error = error_fits(f, n);
+    if id == 0x81 {
+        value_fits(f, n) | error
+    } else {
+        empty_fits(f, n) | error
+    }
 }
 
 pub fn is_request(id: u8) -> bool

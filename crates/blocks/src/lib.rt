@@ -47,12 +47,12 @@ struct Reached {
 }
 
 // A rule of the formats and numbers of values that a block may have: the blocks that pass it.
-trait Rule {
+trait Rule: Copy {
     ghost fits: { Self → ℕ → ℕ → Bool };
 
     // The block at `at`.
-    fn block_at(&self, s: &[u8], at: usize) -> Option<Head>
-        ensures { result ≡ block_by (fits self.now) s.now at };
+    fn block_at(self, s: &[u8], at: usize) -> Option<Head>
+        ensures { result ≡ block_by (fits self) s.now at };
 }
 
 // The blocks of a change.
@@ -62,7 +62,7 @@ struct Change;
 impl Rule for Change {
     ghost fits = { λ rule. change_block_fits };
 
-    fn block_at(&self, s: &[u8], at: usize) -> Option<Head> {
+    fn block_at(self, s: &[u8], at: usize) -> Option<Head> {
         block_at(s, at)
     }
 }
@@ -76,7 +76,7 @@ struct Answer {
 impl Rule for Answer {
     ghost fits = { λ rule. response_block_fits rule.identifier };
 
-    fn block_at(&self, s: &[u8], at: usize) -> Option<Head> {
+    fn block_at(self, s: &[u8], at: usize) -> Option<Head> {
         answer_at(s, at, self.identifier)
     }
 }
@@ -127,10 +127,11 @@ fn sized(s: &[u8], at: usize, each: usize) -> Option<Head>
 fn start_of(s: &[u8], at: usize) -> Option<(u8, u8)>
     ensures { MatchOption result (length s.now < at + 2) (λ r. Starts s.now at r.0 r.1) }
 {
-    let [format, count, ..] = s.get(at..)? else {
-        return None;
-    };
-    Some((*format, *count))
+    if codes::stands(s.len(), at, 2) {
+        Some((s[at], s[at + 1]))
+    } else {
+        None
+    }
 }
 
 // The block of values of a change at `at`.
@@ -171,9 +172,9 @@ pub fn value_at(s: &[u8], at: usize, j: usize) -> u32
 }
 
 // Where n blocks that start at `from` end, each of which passes the rule.
-fn blocks_end<R: Rule>(rule: &R, s: &[u8], from: usize, n: usize) -> Option<Reached>
+fn blocks_end<R: Rule>(rule: R, s: &[u8], from: usize, n: usize) -> Option<Reached>
     requires { from ≤ length s.now }
-    ensures { Walked s.now (map_got has_error ((times n (block (R.fits rule.now))).read (drop from s.now))) result }
+    ensures { Walked s.now (map_got has_error ((times n (block (R.fits rule))).read (drop from s.now))) result }
 {
     let mut at = from;
     let mut error = false;
@@ -200,10 +201,9 @@ fn whole(s: &[u8], reached: Option<Reached>, need: bool) -> bool
 fn framed(block: &[u8]) -> bool
     ensures { IsTrue result ↔ Framed block.now }
 {
-    let [reference, _, _, count, ..] = *block else {
-        return false;
-    };
-    block.len() <= BLOCK_LIMIT && reference != 0 && (1..=MOST_PARAMETERS).contains(&count)
+    (4..=BLOCK_LIMIT).contains(&block.len())
+        && block[0] != 0
+        && (1..=MOST_PARAMETERS).contains(&block[3])
 }
 
 // Whether `block` is a readable request.
@@ -222,9 +222,13 @@ pub fn request_readable(block: &[u8]) -> bool
     if block.len() < from {
         return false;
     }
+    // A read ends with its addresses; a change goes on with a block for each.
+    if id != 2 {
+        return from == block.len();
+    }
     whole(
         block,
-        blocks_end(&Change, block, from, layout::request_blocks(id, n)),
+        blocks_end(Change, block, from, usize::from(n)),
         false,
     )
 }
@@ -241,10 +245,14 @@ pub fn response_readable(block: &[u8]) -> bool
     if !layout::is_answer(id) {
         return false;
     }
+    // 02 ends with its header.
+    if id == 2 {
+        return 4 == block.len();
+    }
     let rule = Answer { identifier: id };
     whole(
         block,
-        blocks_end(&rule, block, 4, layout::response_blocks(id, n)),
+        blocks_end(rule, block, 4, usize::from(n)),
         0x81 <= id,
     )
 }

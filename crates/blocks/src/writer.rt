@@ -15,6 +15,7 @@ pub fn put_header(out: &mut [u8], h: Header)
 }
 
 // Bytes of a block of n values of the format f, filled up.
+#[tactic(auto, using(crate::proofs::Blocks::values_size_lem))]
 pub fn block_size(f: u8, n: u8) -> usize
     ensures { result ≡ 2 + values_size f n }
 {

@@ -3,6 +3,8 @@
 -- 02 or 82), and in each value block a count equal to the elements asked (0 counts as 1). For a no it names the first check that failed,
 -- in that order."
 use Rattle.std.specs.Prelude.{Bool, true, cond, not, ◌&&◌, ◌||◌, List, [], ◌∷◌, ℕ, eqb, leb, length}
+use Rattle.checker.specs.declared.Verdict.{Verdict}
+use Rattle.checker.specs.declared.Verdict.TheVariants.{Yes, RequestUnreadable, ResponseUnreadable, OtherReference, OtherAxis, OtherNumber, OtherIdentifier, OtherCounts}
 use Rattle.codes.specs.Code.{Code, Got, got, bad, readable}
 use Rattle.blocks.specs.Block.{Block, block_limit}
 use Rattle.blocks.specs.Request.{Request, request}
@@ -53,3 +55,14 @@ judged (got q s) (got r t) = compared q r
 
 unfoldable pub check_of : List ℕ → List ℕ → ℕ
 check_of s t = judged (read_as request s) (read_as response t)
+
+-- the number of each answer of the code
+abbrev pub number_of : Verdict → ℕ
+number_of Yes = 0
+number_of RequestUnreadable = 1
+number_of ResponseUnreadable = 2
+number_of OtherReference = 3
+number_of OtherAxis = 4
+number_of OtherNumber = 5
+number_of OtherIdentifier = 6
+number_of OtherCounts = 7

@@ -34,7 +34,7 @@ pub fn between(low: u8, x: u8, high: u8) -> bool
 pub fn stands(len: usize, at: usize, w: usize) -> bool
     ensures { IsTrue result ↔ (at + w ≤ len) }
 {
-    at <= len && w <= len - at
+    w <= len && at <= len - w
 }
 
 // The number that at most four bytes are, high byte first.
@@ -60,12 +60,14 @@ pub fn number_at(s: &[u8], at: usize, w: usize) -> u32
     }
 }
 
+#[tactic(auto, using(crate::proofs::Number::number_small))]
 pub fn byte_at(s: &[u8], at: usize) -> u8
     ensures { result ≡ number_at 1 s.now at }
 {
     number_at(s, at, 1) as u8
 }
 
+#[tactic(auto, using(crate::proofs::Number::number_small))]
 pub fn word_at(s: &[u8], at: usize) -> u16
     ensures { result ≡ number_at 2 s.now at }
 {

@@ -1,8 +1,8 @@
 // The control cycle of one axis.
 #![tactic(auto)]
 
-ghost use Rattle.std.specs.Prelude.{◌≡◌};
-ghost use Rattle.drive.specs.Cycle.{word_used, setpoint_used, effective_of, cycle_of, fresh_drive};
+ghost use Rattle.std.specs.Prelude.{◌≡◌, cond};
+ghost use Rattle.drive.specs.Cycle.{word_of, effective_of, cycle_of, fresh_drive};
 ghost use Rattle.drive.specs.Motion.{moved_of, quiet_of};
 
 pub mod faults; // faults.rt: steps 2 and 3, the fault buffer
@@ -58,6 +58,7 @@ pub struct Output {
     pub entered: bool,
 }
 
+// How a cycle ends, and below it how its steps but 2 and 3 end: each names what it leaves, which a pair or a type parameter would not.
 #[derive(Clone, Copy)]
 pub struct CycleEnd {
     pub drive: Drive,
@@ -87,22 +88,9 @@ pub fn fresh() -> Drive
     }
 }
 
-// Step 1, the word.
-#[tactic(auto, unfolding(crate::specs::Cycle::word_used))]
-fn word_used(received: u16, last: u16) -> u16
-    ensures { result ≡ word_used received last }
-{
-    if Word::from(received).b10 {
-        received
-    } else {
-        last
-    }
-}
-
-// Step 1, the setpoint.
-#[tactic(auto, unfolding(crate::specs::Cycle::setpoint_used))]
-fn setpoint_used(stw1: u16, received: N2, last: N2) -> N2
-    ensures { result ≡ setpoint_used stw1 received last }
+// Step 1, of the word and of the setpoint: what is received where bit 10 of the word received is 1, else the last one accepted.
+fn accepted<T: Copy>(stw1: u16, received: T, last: T) -> T
+    ensures { result ≡ cond (word_of stw1).b10 received last }
 {
     if Word::from(stw1).b10 { received } else { last }
 }
@@ -119,22 +107,22 @@ fn effective_setpoint(s: State, b: Word, last: N2, setpoint: N2) -> N2
 }
 
 // Whether a cycle leaves the faults as they are: no code is sent, and nothing is acknowledged. `empty`: situation 0 is.
-#[tactic(auto, unfolding(crate::specs::Motion::quiet_of, crate::specs::Cycle::word_of))]
+#[tactic(auto, unfolding(crate::specs::Motion::quiet_of, crate::specs::Cycle::word_used, crate::specs::Cycle::word_of))]
 pub fn is_quiet(last: u16, empty: bool, i: Input) -> bool
     ensures { result ≡ quiet_of last empty i }
 {
     let before = Word::from(last);
-    let b = Word::from(word_used(i.stw1, last));
+    let b = Word::from(accepted(i.stw1, i.stw1, last));
     i.fault == 0 && (empty || !b.b7 || before.b7)
 }
 
 // Steps 1 and 4 to 7, which are told of steps 2 and 3 whether situation 0 is not empty after them, and whether step 2 acknowledged.
-#[tactic(auto, unfolding(crate::specs::Motion::moved_of))]
+#[tactic(auto, unfolding(crate::specs::Motion::moved_of, crate::specs::Cycle::word_used, crate::specs::Cycle::setpoint_used))]
 pub fn move_on(m: Motion, faulted: bool, acknowledged: bool, i: Input) -> MotionEnd
     ensures { result ≡ moved_of m faulted acknowledged i }
 {
-    let word = word_used(i.stw1, m.word); // step 1
-    let setpoint = setpoint_used(i.stw1, i.nsoll, m.setpoint);
+    let word = accepted(i.stw1, i.stw1, m.word); // step 1
+    let setpoint = accepted(i.stw1, i.nsoll, m.setpoint);
     let b = Word::from(word);
     let state = states::state_after(faulted, m.state, b, i.standstill); // step 4
     let effective = effective_setpoint(state, b, m.effective, setpoint); // step 5
@@ -161,12 +149,12 @@ pub fn move_on(m: Motion, faulted: bool, acknowledged: bool, i: Input) -> Motion
 }
 
 // One control cycle of one axis, in the steps of document 01.
-#[tactic(auto, unfolding(crate::specs::Cycle::cycle_of, crate::specs::Motion::moved_of))]
+#[tactic(auto, unfolding(crate::specs::Cycle::cycle_of, crate::specs::Cycle::word_used, crate::specs::Motion::moved_of))]
 pub fn cycle(d: Drive, i: Input) -> CycleEnd
     ensures { result ≡ cycle_of d i }
 {
     let last = d.motion.word;
-    let b = Word::from(word_used(i.stw1, last)); // step 1, the word
+    let b = Word::from(accepted(i.stw1, i.stw1, last)); // step 1, the word
     let acknowledged = faults::acknowledges(b, Word::from(last), i.fault, d.faults); // step 2
     let left = faults::after_ack(acknowledged, d.faults);
     let f = faults::after_code(i.fault, left); // step 3
@@ -184,9 +172,9 @@ pub fn cycle(d: Drive, i: Input) -> CycleEnd
 pub fn cycle_in_place(d: &mut Drive, i: Input) -> Output
     ensures { (result ≡ (cycle_of d.old i).output) × (d.new ≡ (cycle_of d.old i).drive) }
 {
-    let r = cycle(*d, i);
-    *d = r.drive;
-    r.output
+    let end = cycle(*d, i);
+    *d = end.drive;
+    end.output
 }
 
 // A record that is lent and taken back: its contract says nothing of a reference, so whoever calls it needs no walk by hand.

@@ -54,9 +54,6 @@ whole {n} {bs} {t} {u} w e =
     ∙ (ap (λ (k : ℕ). (take k m ++ bs) ++ drop (length bs) (drop k m)) e ∙ ap (λ (k : ℕ). bs ++ drop k m) long))
 
 -- how a number in decimal begins
-pub decimal_last : (n x : ℕ) → n ≡ 0 → decimal_in n x ≡ digit (x % 10) ∷ []
-decimal_last n x e = rw e
-
 pub decimal_low : (n x : ℕ) → x < 10 → decimal_in n x ≡ digit x ∷ []
 decimal_low zero x h = let e : x % 10 ≡ x = omega arith in ap (λ (d : ℕ). digit d ∷ []) e
 decimal_low (suc n) x h = rw (lt-ltb x 10 h)

@@ -1,13 +1,13 @@
 -- What is known of bytes by whether they are a record.
 use mathlib.Core.Path.{◌≡◌, refl, sym, subst, ◌∙◌, ap}
-use mathlib.Core.Bool.{Bool, true, false, cond, ◌&&◌, ◌||◌, true≢false, and-eq-true_iff}
+use mathlib.Core.Bool.{Bool, true, false, cond, ◌&&◌, ◌||◌, true≢false, and-true, and_assoc, and-eq-true_iff}
 use mathlib.Core.List.{List, [], ◌∷◌, append_assoc}
 use Prim.Native.Nat.{ℕ, zero, suc, ◌+◌, ◌≤◌}
 use native.Mathlib.Omega.{arith}
 use lib.Dec.{eqb, leb}
 use lib.ListN.{length, get_or, drop}
 use lib.Seq.{drop-append-add}
-use borrow.Author.Tests.{eqb-true, leb-true, eq-eqb, ne_eqb, lt-ltb}
+use borrow.Author.Tests.{eqb-true, eqb-false, leb-true, eq-eqb, ne_eqb, lt-ltb}
 use Rattle.codes.specs.Number.{number_at}
 use Rattle.drive.specs.Faults.{zeros}
 use Rattle.station.specs.Parts.{part_of, station_refusal}
@@ -18,7 +18,8 @@ use Rattle.station.proofs.Tests.{one_of}
 use borrow.Table.Steps.{cases}
 use Rattle.journal.specs.Line.{record_length, cycle_record, frame_record, return_record, cycle_call, frame_length, frame_call, return_call, holds_frame, is_merged, is_cycle, is_frame, is_return, is_record, call_of, line_of, bad_line, record_line, record_after}
 use Rattle.std.specs.Prelude.{Option, Some, None}
-use Rattle.std.specs.List.{list_all}
+use Rattle.std.specs.List.{fold}
+use lib.Bits.{bit_or, or_add_and, and_le_r}
 use Rattle.std.specs.Option.{is_some}
 use Rattle.journal.specs.declared.record.Kind.{Kind}
 use Rattle.journal.specs.declared.record.Kind.TheVariants.{Cycle, Frame, Return}
@@ -26,10 +27,13 @@ use Rattle.journal.specs.Kinds.{kind_by, clear_past_frame, kind_in, kind_of}
 use Rattle.journal.specs.History.{acted_by, acted_of}
 use Rattle.journal.specs.Laws.{MergedRecords, ReturnRecords, NoneLists}
 
--- every byte is 0
-pub zeros_all : (s : List ℕ) → zeros s ≡ list_all (λ b. eqb b 0) s
-zeros_all [] = refl
-zeros_all (x ∷ s) = ap (λ (b : Bool). eqb x 0 && b) (zeros_all s)
+-- bytes joined are 0 where each is
+join_both : (a b : ℕ) → eqb (bit_or a b) 0 ≡ (eqb a 0 && eqb b 0)
+join_both a b = cases (eqb a 0) (λ e. rw (eqb-true a 0 e)) (λ n. rw n (ne_eqb (bit_or a b) 0 (λ z. eqb-false a 0 n (omega (arith, or_add_and a b, and_le_r a b)))))
+
+pub joined : (a : ℕ) (s : List ℕ) → eqb (fold bit_or a s) 0 ≡ (eqb a 0 && zeros s)
+joined a [] = sym (and-true (eqb a 0))
+joined a (x ∷ s) = joined (bit_or a x) s ∙ (ap (λ (b : Bool). b && zeros s) (join_both a x) ∙ and_assoc (eqb a 0) (eqb x 0) (zeros s))
 
 -- a record of a kind that tests nothing else
 module _ (size kind : ℕ) (r : List ℕ) (h : eqb (length r) size && eqb (get_or r 0 0) kind ≡ true) where
@@ -142,6 +146,10 @@ module _ (r s : List ℕ) where
 
   pub comes_of : (k : Option Kind) → k ≡ kind_of r → ComesOf k
   comes_of k e = let P : Option Kind → Type 0 = ComesOf in subst P (sym (e ∙ kind_tests r)) (by_tests (is_cycle r) (is_return r) (is_frame r) refl refl refl)
+
+-- the same of the kind that an arm has found
+pub found : (r s : List ℕ) {o : Option Kind} {j k : Kind} → o ≡ kind_of r → o ≡ Some j → j ≡ k → ComesOf r s (Some k)
+found r s {k = k} e some is = comes_of r s (Some k) (ap Some (sym is) ∙ (sym some ∙ e))
 
 -- bytes are a record where they are of a kind
 pub record_kinds : (r : List ℕ) → is_some (kind_of r) ≡ is_record r

@@ -2,8 +2,6 @@
 #![tactic(auto)]
 
 ghost use Rattle.std.specs.Prelude.{◌≡◌, ◌++◌, ◌≤◌, length, drop};
-ghost use Rattle.station.specs.Calls.{kinds};
-ghost use Rattle.station.specs.Isolation.{answer, after};
 ghost use Rattle.journal.specs.Written.{room, Wrote};
 ghost use Rattle.journal.specs.Line.{is_record, record_line, record_after};
 ghost use Rattle.journal.specs.Kinds.{kind_of};
@@ -63,6 +61,7 @@ fn put_played(station: &mut [u8], bytes: &[u8], kind: Option<Kind>, text: &mut T
 }
 
 // Plays a record on the station, and writes its line; anything else is bad.
+#[tactic(auto, using(crate::proofs::Records::record_kinds))]
 pub fn play(station: &mut [u8], bytes: &[u8], line: &mut [u8; LINE]) -> Played
     ensures line_after { line.new ≡ record_line bytes.now station.old ++ drop result.length line.old }
     ensures length_value { (result.length ≡ length (record_line bytes.now station.old)) × (result.length ≤ 513) }

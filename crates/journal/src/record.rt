@@ -1,8 +1,8 @@
 // Which bytes are a record, and of which kind.
-ghost use Rattle.std.specs.Prelude.{◌≡◌, ◌≤◌, eqb, length};
-ghost use Rattle.std.specs.List.{list_all};
+ghost use Rattle.std.specs.Prelude.{◌≡◌, ◌≤◌, length};
+ghost use Rattle.drive.specs.Faults.{zeros};
 ghost use Rattle.journal.specs.Line.{record_length, longest_record, next_record};
-ghost use Rattle.journal.specs.Kinds.{clear_past_frame, kind_by, length_of, kind_of};
+ghost use Rattle.journal.specs.Kinds.{clear_past_frame, kind_of};
 
 // Records, with their kind byte, and what of a frame's stands before the frame.
 const CYCLE: usize = 11;
@@ -81,11 +81,11 @@ pub fn longest_record() -> usize
     FRAME
 }
 
-// Whether every byte is 0.
+// Whether every byte is 0: no early exit, so that many are joined at a time.
 fn is_zero(bytes: &[u8]) -> bool
-    ensures { result ≡ list_all (λ b. eqb b 0) bytes.now }
+    ensures { result ≡ zeros bytes.now }
 {
-    bytes.iter().all(|&b| b == 0)
+    bytes.iter().fold(0, |seen, byte| seen | *byte) == 0
 }
 
 // Whether a frame's length is one, and every byte past the frame is 0.

@@ -26,7 +26,7 @@ fn digit(d: u8) -> u8
     requires { d < 16 }
     ensures { result ≡ digit d }
 {
-    if d < 10 { 0x30 + d } else { 0x37 + d }
+    if d < 10 { b'0' + d } else { b'A' + (d - 10) }
 }
 
 impl<'a> Text<'a> {
@@ -116,8 +116,9 @@ impl<'a> Text<'a> {
         requires { room 4 self.old }
         ensures { Wrote 4 (hex_word w) self.old self.new }
     {
-        self.put_hex_byte((w / 256) as u8);
-        self.put_hex_byte((w % 256) as u8);
+        let [high, low] = w.to_be_bytes();
+        self.put_hex_byte(high);
+        self.put_hex_byte(low);
     }
 
     pub(crate) fn put_hex_bytes(&mut self, bytes: &[u8])

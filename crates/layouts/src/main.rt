@@ -36,7 +36,7 @@ fn headed(h: Header) -> [u8; ROOM] {
     block
 }
 
-// The first `len` bytes, or all where there are no more.
+// The first `len` bytes, or all where there are no more. `requests` has the same line: a crate for it would be no plainer.
 fn first(block: &[u8], len: usize) -> &[u8] {
     block.get(..len).unwrap_or(block)
 }

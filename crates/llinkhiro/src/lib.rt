@@ -105,5 +105,5 @@ pub extern "C" fn llinkhiro_go_back(station: &mut [u8], farm: u32, version: u32)
 pub extern "C" fn llinkhiro_check(request: &[u8], response: &[u8]) -> u8
     ensures { result ≡ check_of request.now response.now }
 {
-    checker::check(request, response)
+    checker::check(request, response) as u8
 }

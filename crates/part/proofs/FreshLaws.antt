@@ -1,19 +1,17 @@
 -- A fresh part, made row by row.
 use mathlib.Core.Path.{◌≡◌, refl, sym, ◌∙◌, ap}
 use mathlib.Core.Bool.{Bool, cond}
-use mathlib.Core.List.{List, [], ◌∷◌, ◌++◌, append-nil}
+use mathlib.Core.List.{List, [], ◌∷◌}
 use Prim.Native.Nat.{ℕ, zero, suc, ◌+◌, ◌≤◌, ◌<◌}
-use native.Mathlib.Omega.{arith}
 use native.Mathlib.Numerals.{add-one}
-use lib.ListN.{length, drop, replicate, length-replicate, drop_of_length-le}
+use lib.ListN.{length, drop, replicate, drop_of_length-le}
 use lib.Seq.{drop-cons}
 use borrow.Author.Tests.{eq-eqb, ne_eqb}
 use Rattle.codes.specs.Code.{word}
 use Rattle.codes.specs.Number.{put}
-use Rattle.codes.proofs.Put.{put_fits}
 use Rattle.catalogue.specs.declared.Row.{Row}
 use Rattle.catalogue.specs.Table.{rows, no_row, row_at}
-use Rattle.catalogue.specs.Element.{put_element, fresh_of}
+use Rattle.catalogue.specs.Element.{fresh_of}
 use Rattle.catalogue.proofs.Elements.{element_length}
 use Rattle.versions.specs.Keep.{filled_within}
 use Rattle.part.specs.Layout.{state_at, versions_at, part_size}
@@ -23,9 +21,6 @@ module _ (r : Row) where
   pub elements_length : (n : ℕ) (p : List ℕ) → length (fresh_elements r n p) ≡ length p
   elements_length zero p = refl
   elements_length (suc n) p = element_length r n (fresh_of r n) (fresh_elements r n p) ∙ elements_length n p
-
-  pub elements_next : (i : ℕ) (p : List ℕ) → put_element r i (fresh_of r i) (fresh_elements r i p) ≡ fresh_elements r (i + 1) p
-  elements_next i p = rw (add-one i)
 
 pub rows_length : (rs : List Row) (p : List ℕ) → length (fresh_rows rs p) ≡ length p
 rows_length [] p = refl
@@ -38,23 +33,12 @@ rows_next i p h = rw (drop-cons rows i no_row h, add-one i)
 pub rows_done : (i : ℕ) (p : List ℕ) → length rows ≤ i → fresh_rows (drop i rows) p ≡ p
 rows_done i p h = rw (drop_of_length-le rows {i = i} h)
 
--- every byte cleared
-pub all_cleared : (p : List ℕ) (n : ℕ) → length p ≡ n → put p 0 (replicate n 0) ≡ replicate n 0
-all_cleared p n e =
-    put_fits p 0 (replicate n 0) (omega (arith, length-replicate {A = ℕ} n 0))
-    ∙ (ap (λ (l : List ℕ). replicate n 0 ++ l) (drop_of_length-le p {i = 0 + length (replicate {A = ℕ} n 0)} (omega (arith, length-replicate {A = ℕ} n 0)))
-    ∙ append-nil (replicate n 0))
-
 module _ (p : List ℕ) where
   -- memory of another size
   pub left_alone : (length p ≡ part_size → ⊥) → p ≡ fresh_over p
   unfolding fresh_over
   left_alone n = sym (ap (λ (b : Bool). cond b fresh_part p) (ne_eqb (length p) part_size n))
 
-  pub made_fresh : (n : ℕ) → length p ≡ part_size → n ≡ 1 → filled_within versions_at (fresh_rows rows (put (put p 0 (replicate part_size 0)) state_at ((word 1).write n))) ≡ fresh_over p
+  pub made_fresh : (n : ℕ) → length p ≡ part_size → n ≡ 1 → (q : List ℕ) → q ≡ replicate (length p) 0 → filled_within versions_at (fresh_rows rows (put q state_at ((word 1).write n))) ≡ fresh_over p
   unfolding fresh_over fresh_part fresh_front
-  made_fresh n e one =
-      ap (filled_within versions_at)
-      (ap (λ (l : List ℕ). fresh_rows rows (put l state_at ((word 1).write n))) (all_cleared p part_size e)
-      ∙ ap (λ (k : ℕ). fresh_rows rows (put (replicate part_size 0) state_at ((word 1).write k))) one)
-      ∙ sym (ap (λ (b : Bool). cond b fresh_part p) (eq-eqb (length p) part_size e))
+  made_fresh n e one q cleared = rw (cleared, e, one) refl ∙ sym (ap (λ (b : Bool). cond b fresh_part p) (eq-eqb (length p) part_size e))

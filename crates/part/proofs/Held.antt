@@ -27,7 +27,7 @@ use Rattle.part.specs.Layout.{state_at, effective_at, length_at, response_at, ve
 use Rattle.part.specs.Record.{faults_of, drive_of}
 use Rattle.drive.specs.States.{state_of}
 use Rattle.part.specs.WellFormed.{limits_fit, fixed_fit, waiting_fits, unused_fit}
-use Rattle.part.proofs.Waiting.{byte_written, filled_length}
+use Rattle.part.proofs.StoredResponse.{byte_written, filled_length}
 use Rattle.part.proofs.Kept.{row_passes, row_safe, tested_safe, element_same, limits_same, fixed_same}
 
 -- w bytes from k on stand before the response and its length

@@ -1,4 +1,4 @@
-pub mod Waiting
+pub mod StoredResponse
 pub mod Words
 pub mod Situations
 pub mod Every

@@ -1,5 +1,5 @@
 -- The rule for a well-formed part, taken apart and put together again.
-use mathlib.Core.Path.{◌≡◌, sym, ap}
+use mathlib.Core.Path.{◌≡◌, ◌∙◌, ap}
 use mathlib.Core.Bool.{Bool, true, false, ◌&&◌, and-eq-true_iff}
 use mathlib.Core.List.{List}
 use Prim.Native.Nat.{ℕ}
@@ -14,41 +14,42 @@ use Rattle.part.specs.Layout.{state_at, part_size, versions}
 use Rattle.part.specs.Record.{faults_of}
 use Rattle.catalogue.specs.Element.{every_row}
 use Rattle.part.specs.WellFormed.{limits_fit, fixed_fit, waiting_fits, unused_fit, well_formed}
-use Rattle.drive.specs.States.{is_state}
+use Rattle.drive.specs.States.{is_state, state_found}
+use Rattle.drive.specs.declared.states.State.{State}
+use Rattle.drive.specs.declared.states.UnknownState.{UnknownState}
+use Rattle.std.proofs.Common.{Result, is_ok}
+use borrow.Table.Steps.{cases}
+
+looked_for : (n : ℕ) → is_ok (state_found n) ≡ is_state n
+unfolding state_found
+looked_for n = cases (is_state n) (λ e. rw e) (λ e. rw e)
+
+-- what is known of a number where a state was looked for
+pub state_is : {n m : ℕ} {r : Result State UnknownState} {b : Bool} → n ≡ m → r ≡ state_found n → b ≡ is_ok r → b ≡ is_state m
+state_is {n} same looked ok = ok ∙ (ap is_ok looked ∙ (looked_for n ∙ ap is_state same))
 
 abbrev all : Bool → Bool → Bool → Bool → Bool → Bool → Bool → Bool → Bool
 all size state limits fixed faults waits unused kept = size && state && limits && fixed && faults && waits && unused && kept
 
--- the first test that fails decides
-module _ (size state limits fixed faults waits unused kept : Bool) where
-  first_fails : size ≡ false → false ≡ all size state limits fixed faults waits unused kept
-  first_fails e = rw e
-
-  module _ (e₁ : size ≡ true) where
-    second_fails : state ≡ false → false ≡ all size state limits fixed faults waits unused kept
-    second_fails e = rw (e₁, e)
-
-    module _ (e₂ : state ≡ true) (rows_fit : Bool) (e₃ : (limits && fixed) ≡ rows_fit) where
-      others : (rows_fit && faults && waits && unused && kept) ≡ all size state limits fixed faults waits unused kept
-      others = rw (e₁, e₂) (ap (λ (r : Bool). r && faults && waits && unused && kept) (sym e₃))
-
 module _ (axis : ℕ) (p : List ℕ) where
   pub wrong_size : (length p ≡ part_size → ⊥) → false ≡ well_formed axis p
   unfolding well_formed
-  wrong_size n = first_fails (eqb (length p) part_size) _ _ _ _ _ _ _ (ne_eqb (length p) part_size n)
+  wrong_size n = rw (ne_eqb (length p) part_size n)
 
-  module _ (size : length p ≡ part_size) where
-    pub no_state : is_state (number_at 1 p state_at) ≡ false → false ≡ well_formed axis p
-    unfolding well_formed
-    no_state e = second_fails (eqb (length p) part_size) (is_state (number_at 1 p state_at)) _ _ _ _ _ _ (eq-eqb (length p) part_size size) e
+  -- the tests that are left for a part of the right size
+  abbrev pub others : Bool
+  others =
+      is_state (number_at 1 p state_at)
+      && every_row (limits_fit p) rows
+      && every_row (fixed_fit p) rows
+      && proper_faults (faults_of p)
+      && waiting_fits axis p
+      && unused_fit p
+      && versions_fit (versions p)
 
-    module _ (state : is_state (number_at 1 p state_at) ≡ true) where
-      pub after_state : (rows_fit : Bool) → rows_fit ≡ (every_row (limits_fit p) rows && every_row (fixed_fit p) rows)
-          → (rows_fit && proper_faults (faults_of p) && waiting_fits axis p && unused_fit p && versions_fit (versions p)) ≡ well_formed axis p
-      unfolding well_formed
-      after_state rows_fit e =
-          others (eqb (length p) part_size) (is_state (number_at 1 p state_at)) (every_row (limits_fit p) rows) (every_row (fixed_fit p) rows) (proper_faults (faults_of p)) (waiting_fits axis p) (unused_fit p) (versions_fit (versions p))
-          (eq-eqb (length p) part_size size) state rows_fit (sym e)
+  pub right_size : length p ≡ part_size → others ≡ well_formed axis p
+  unfolding well_formed
+  right_size e = rw (eq-eqb (length p) part_size e)
 
 -- what is known of a well-formed part
 pub record Form (axis : ℕ) (p : List ℕ) : Type 0 where

@@ -1,102 +1,92 @@
 -- How the tests of a situation and of the bytes that must be 0 go on from one place to the next.
-use mathlib.Core.Path.{◌≡◌, ◌∙◌, ap}
-use mathlib.Core.Bool.{Bool, true, false, ◌&&◌}
-use mathlib.Core.List.{List, ◌∷◌}
-use Prim.Native.Nat.{ℕ, suc, ◌+◌, ◌*◌, ◌-◌, ◌≤◌, ◌<◌}
+use mathlib.Core.Path.{◌≡◌, refl, sym, ◌∙◌, ap}
+use mathlib.Core.Bool.{Bool, true, cond, not, ◌&&◌, ◌||◌, and-true, and_assoc, and-eq-true_iff}
+use mathlib.Core.List.{List, [], ◌∷◌}
+use Prim.Native.Nat.{ℕ, zero, suc, ◌+◌, ◌*◌, ◌-◌, ◌≤◌, ◌<◌}
 use native.Mathlib.Omega.{arith}
 use native.Mathlib.Numerals.{add-one}
 use lib.Dec.{eqb}
+use Rattle.std.specs.List.{list_all, list_any, fold, range_with_len}
+use Rattle.std.proofs.lemmas.List.{take_rest}
 use lib.Bits.{bit_or, or_add_and, and_le_r}
-use lib.ListN.{length, get_or, take, drop, replicate, drop_of_length-le}
-use lib.Seq.{drop-cons, drop-drop}
+use lib.ListN.{length, get_or, take, drop, replicate}
+use lib.Seq.{drop-cons}
 use borrow.Author.Tests.{eq-eqb, ne_eqb, eqb-true, eqb-false}
 use borrow.Table.Steps.{cases}
 use Rattle.codes.specs.Number.{number_at}
 use Rattle.drive.specs.Faults.{situations, situation_codes, buffer_codes, is_in, zeros, proper, all_proper}
 use Rattle.part.specs.Record.{words_at}
-use Rattle.part.proofs.Words.{words_within, clear_words}
+use Rattle.catalogue.proofs.Every.{every_is}
+use Rattle.part.proofs.Every.{every_below}
+use Rattle.part.proofs.Words.{take_words, drop_words, clear_words}
 
+-- the library's tests of a whole list are those of the rule
+pub zeros_all : (s : List ℕ) → list_all (λ x. eqb x 0) s ≡ zeros s
+zeros_all [] = refl
+zeros_all (x ∷ xs) = ap (λ (b : Bool). eqb x 0 && b) (zeros_all xs)
+
+in_any : (x : ℕ) (s : List ℕ) → list_any (λ y. eqb y x) s ≡ is_in x s
+in_any x [] = refl
+in_any x (y ∷ ys) = ap (λ (b : Bool). eqb y x || b) (in_any x ys)
+
+-- a code, and those after it
 module _ (s : List ℕ) (i : ℕ) (h : i < length s) where
-  pub zeros_here : zeros (drop i s) ≡ (eqb (get_or s i 0) 0 && zeros (drop (i + 1) s))
-  zeros_here = rw (drop-cons s i 0 h, add-one i)
+  abbrev others : List ℕ
+  others = take (length s - (i + 1)) (drop (i + 1) s)
 
-  pub zeros_hit : (get_or s i 0 ≡ 0 → ⊥) → zeros (drop i s) ≡ false
-  zeros_hit n = rw (zeros_here, ne_eqb (get_or s i 0) 0 n)
+  proper_here : proper (drop i s) ≡ cond (eqb (get_or s i 0) 0) (zeros (drop (i + 1) s)) (not (is_in (get_or s i 0) (drop (i + 1) s)) && proper (drop (i + 1) s))
+  proper_here = rw (drop-cons s i 0 h, add-one i)
 
-  pub zeros_next : get_or s i 0 ≡ 0 → zeros (drop i s) ≡ zeros (drop (i + 1) s)
-  zeros_next e = rw (zeros_here, eq-eqb (get_or s i 0) 0 e)
+  pub proper_zero : get_or s i 0 ≡ 0 → list_all (λ x. eqb x 0) others ≡ proper (drop i s)
+  proper_zero e = rw (take_rest s (i + 1)) (zeros_all (drop (i + 1) s) ∙ sym (proper_here ∙ rw (eq-eqb (get_or s i 0) 0 e)))
 
-  pub in_hit : (x : ℕ) → get_or s i 0 ≡ x → is_in x (drop i s) ≡ true
-  in_hit x e = rw (drop-cons s i 0 h, eq-eqb (get_or s i 0) x e)
+  pub proper_other : (get_or s i 0 ≡ 0 → ⊥) → (t : Bool) → t ≡ list_any (λ y. eqb y (get_or s i 0)) others → proper (drop i s) ≡ (not t && proper (drop (i + 1) s))
+  proper_other n t e =
+      let f : t ≡ is_in (get_or s i 0) (drop (i + 1) s) = e ∙ (ap (list_any (λ y. eqb y (get_or s i 0))) (take_rest s (i + 1)) ∙ in_any (get_or s i 0) (drop (i + 1) s)) in
+      proper_here ∙ rw (ne_eqb (get_or s i 0) 0 n, f)
 
-  pub in_next : (x : ℕ) → (get_or s i 0 ≡ x → ⊥) → is_in x (drop i s) ≡ is_in x (drop (i + 1) s)
-  in_next x n = rw (drop-cons s i 0 h, ne_eqb (get_or s i 0) x n, add-one i)
-
-  pub proper_zero : get_or s i 0 ≡ 0 → proper (drop i s) ≡ zeros (drop (i + 1) s)
-  proper_zero e = rw (drop-cons s i 0 h, eq-eqb (get_or s i 0) 0 e, add-one i)
-
-  pub proper_twice : (get_or s i 0 ≡ 0 → ⊥) → is_in (get_or s i 0) (drop (i + 1) s) ≡ true → proper (drop i s) ≡ false
-  proper_twice n t = rw (drop-cons s i 0 h, ne_eqb (get_or s i 0) 0 n, ← add-one i, t)
-
-  pub proper_next : (get_or s i 0 ≡ 0 → ⊥) → is_in (get_or s i 0) (drop (i + 1) s) ≡ false → proper (drop i s) ≡ proper (drop (i + 1) s)
-  proper_next n t =
-      let t' : is_in (get_or s i 0) (drop (suc i) s) ≡ false = rw (← add-one i) t in
-      rw (drop-cons s i 0 h, ne_eqb (get_or s i 0) 0 n, t', add-one i)
-
--- past the end there is no code
-module _ (s : List ℕ) (i : ℕ) (h : length s ≤ i) where
-  pub zeros_end : zeros (drop i s) ≡ true
-  zeros_end = rw (drop_of_length-le s {i = i} h)
-
-  pub in_end : (x : ℕ) → is_in x (drop i s) ≡ false
-  in_end x = rw (drop_of_length-le s {i = i} h)
-
-  pub proper_end : proper (drop i s) ≡ true
-  proper_end = rw (drop_of_length-le s {i = i} h)
-
--- two bytes joined are 0 where both are
-pub join_both : (a b : ℕ) → eqb (bit_or a b) 0 ≡ (eqb a 0 && eqb b 0)
+-- bytes joined are 0 where each is
+join_both : (a b : ℕ) → eqb (bit_or a b) 0 ≡ (eqb a 0 && eqb b 0)
 join_both a b = cases (eqb a 0) (λ e. rw (eqb-true a 0 e)) (λ n. rw n (ne_eqb (bit_or a b) 0 (λ z. eqb-false a 0 n (omega (arith, or_add_and a b, and_le_r a b)))))
 
--- and with the next byte
-pub join_next : (s : List ℕ) (i m l : ℕ) → i < length s → eqb l 0 ≡ (eqb m 0 && eqb (get_or s i 0) 0) → (eqb m 0 && zeros (drop i s)) ≡ (eqb l 0 && zeros (drop (i + 1) s))
-join_next s i m l h e = rw (zeros_here s i h, e) (regroup (eqb m 0) (eqb (get_or s i 0) 0) (zeros (drop (i + 1) s)))
-  where
-    regroup : (a b c : Bool) → (a && (b && c)) ≡ (a && b && c)
-    regroup true b c = cc
-    regroup false b c = cc
+pub joined_next : (a b : ℕ) → eqb (bit_or a b) 0 ≡ true → (eqb a 0 ≡ true) × (eqb b 0 ≡ true)
+joined_next a b e = (and-eq-true_iff (eqb a 0) (eqb b 0)).0 (sym (join_both a b) ∙ e)
 
--- the situations from the k-th on
-abbrev pub from_situation : List ℕ → ℕ → Bool
-from_situation b k = all_proper (situations - k) (drop (k * situation_codes) b)
+pub joined : (a : ℕ) (s : List ℕ) → eqb (fold bit_or a s) 0 ≡ (eqb a 0 && zeros s)
+joined a [] = sym (and-true (eqb a 0))
+joined a (x ∷ xs) = joined (bit_or a x) xs ∙ (ap (λ (b : Bool). b && zeros xs) (join_both a x) ∙ and_assoc (eqb a 0) (eqb x 0) (zeros xs))
 
-module _ (b : List ℕ) (k : ℕ) (h : k < situations) where
-  one_more : from_situation b k ≡ (proper (take situation_codes (drop (k * situation_codes) b)) && from_situation b (k + 1))
-  one_more =
-      let e : situations - k ≡ suc (situations - (k + 1)) = omega arith in
-      let f : k * situation_codes + situation_codes ≡ (k + 1) * situation_codes = omega arith in
-      ap (λ (n : ℕ). all_proper n (drop (k * situation_codes) b)) e
-      ∙ ap (λ (l : List ℕ). proper (take situation_codes (drop (k * situation_codes) b)) && all_proper (situations - (k + 1)) l) (drop-drop situation_codes (k * situation_codes) b ∙ ap (λ (n : ℕ). drop n b) f)
+-- where the codes of the k-th situation stand in a buffer that begins at a place
+module _ (p : List ℕ) (at : ℕ) where
+  abbrev pub codes_in : ℕ → List ℕ
+  codes_in k = words_at situation_codes p (at + k * (situation_codes * 2))
 
-  pub situation_unfit : proper (take situation_codes (drop (k * situation_codes) b)) ≡ false → from_situation b k ≡ false
-  situation_unfit e = one_more ∙ rw e
+  from : (n a : ℕ) → list_all (λ k. proper (codes_in k)) (range_with_len a n) ≡ all_proper n (words_at (n * situation_codes) p (at + a * (situation_codes * 2)))
+  from zero a = refl
+  from (suc n) a =
+      let here = at + a * (situation_codes * 2) in
+      let all = words_at (suc n * situation_codes) p here in
+      let e : suc n * situation_codes - situation_codes ≡ n * situation_codes = omega arith in
+      let f : here + situation_codes * 2 ≡ at + (a + 1) * (situation_codes * 2) = omega arith in
+      let first : take situation_codes all ≡ codes_in a = take_words situation_codes (suc n * situation_codes) p here (omega arith) in
+      let others : drop situation_codes all ≡ words_at (n * situation_codes) p (at + (a + 1) * (situation_codes * 2)) =
+      drop_words situation_codes (suc n * situation_codes) p here (omega arith) ∙ (ap (λ (k : ℕ). words_at k p (here + situation_codes * 2)) e ∙ ap (words_at (n * situation_codes) p) f) in
+      ap (λ (b : Bool). proper (codes_in a) && b) (from n (a + 1))
+      ∙ sym (ap (λ (l : List ℕ). proper l && all_proper n (drop situation_codes all)) first ∙ ap (λ (l : List ℕ). proper (codes_in a) && all_proper n l) others)
 
-  pub situation_next : proper (take situation_codes (drop (k * situation_codes) b)) ≡ true → from_situation b k ≡ from_situation b (k + 1)
-  situation_next e = one_more ∙ rw e
+  pub all_situations : list_all (λ k. proper (codes_in k)) (range_with_len 0 situations) ≡ all_proper situations (words_at buffer_codes p at)
+  all_situations = let e : at + 0 * (situation_codes * 2) ≡ at = omega arith in from situations 0 ∙ ap (λ (k : ℕ). all_proper situations (words_at buffer_codes p k)) e
 
--- the k-th situation of a buffer that stands at a place
-pub situation_is : (p : List ℕ) (at k : ℕ) → k < situations → proper (take situation_codes (drop (k * situation_codes) (words_at buffer_codes p at))) ≡ proper (words_at situation_codes p (at + k * (situation_codes * 2)))
-situation_is p at k h =
-    let e : at + k * situation_codes * 2 ≡ at + k * (situation_codes * 2) = omega arith in
-    ap proper (words_within situation_codes (k * situation_codes) buffer_codes p at (omega arith) ∙ ap (words_at situation_codes p) e)
-
--- a situation of at most one code
-pub situation_single : (p : List ℕ) (at k : ℕ) → k < situations → at + buffer_codes * 2 ≤ length p
-    → zeros (take ((situation_codes - 1) * 2) (drop (at + k * (situation_codes * 2) + 2) p)) ≡ true → proper (take situation_codes (drop (k * situation_codes) (words_at buffer_codes p at))) ≡ true
-situation_single p at k h room clear =
-    let from = at + k * (situation_codes * 2) in
-    situation_is p at k h
-    ∙ (ap (λ (l : List ℕ). proper (number_at 2 p from ∷ l)) (clear_words (situation_codes - 1) p (from + 2) (omega arith) clear) ∙ single (number_at 2 p from))
-  where
-    single : (x : ℕ) → proper (x ∷ replicate (situation_codes - 1) 0) ≡ true
-    single x = cases (eqb x 0) (λ e. rw e) (λ n. rw (n, ne_eqb 0 x (λ e. eqb-false x 0 n (omega arith))))
+  -- situations of at most one code each
+  pub all_single : at + buffer_codes * 2 ≤ length p
+      → ((k : ℕ) → k < situations → zeros (take ((situation_codes - 1) * 2) (drop (at + k * (situation_codes * 2) + 2) p)) ≡ true)
+      → all_proper situations (words_at buffer_codes p at) ≡ true
+  all_single room clear =
+      sym all_situations
+      ∙ (every_below (λ k. proper (codes_in k)) situations
+      ∙ every_is (λ k. proper (codes_in k)) situations (λ k h.
+      let here = at + k * (situation_codes * 2) in
+      ap (λ (l : List ℕ). proper (number_at 2 p here ∷ l)) (clear_words (situation_codes - 1) p (here + 2) (omega arith) (clear k h)) ∙ single (number_at 2 p here)))
+    where
+      single : (x : ℕ) → proper (x ∷ replicate (situation_codes - 1) 0) ≡ true
+      single x = cases (eqb x 0) (λ e. rw e) (λ n. rw (n, ne_eqb 0 x (λ e. eqb-false x 0 n (omega arith))))

@@ -27,7 +27,7 @@ use Rattle.part.specs.Record.{words_at, faults_of, drive_of, put_drive}
 use Rattle.drive.specs.States.{number_of, state_of}
 use Rattle.part.specs.WellFormed.{limits_fit, fixed_fit}
 use Rattle.part.proofs.Kept.{row_passes, row_safe, tested_safe, element_same, limits_same, fixed_same}
-use Rattle.part.proofs.Waiting.{byte_written}
+use Rattle.part.proofs.StoredResponse.{byte_written}
 use Rattle.part.proofs.Words.{Words, words_put}
 use Rattle.part.proofs.Apart.{Write, puts, puts_length, apart, number_apart, number_stored, drop_ended}
 

@@ -1,66 +1,73 @@
 -- The words of a run, read one after the other.
-use mathlib.Core.Path.{◌≡◌, refl, sym, ◌∙◌, ap}
+use mathlib.Core.Path.{◌≡◌, refl, sym, ◌∙◌, ap, subst}
 use mathlib.Core.Bool.{true, and-eq-true_iff}
-use mathlib.Core.List.{List, [], ◌∷◌, ◌++◌, append-nil, append_assoc}
+use mathlib.Core.List.{List, [], ◌∷◌, ◌++◌, map, append_assoc}
+use denote.Param.Members.{Mut}
+use native.Mathlib.Decide.{dec_le}
+use Rattle.std.specs.Array.{IsFromFnResultFrom, IsFromFnResult}
+use Rattle.std.proofs.lemmas.List.FromFn.{fill_by_all}
+use Rattle.std.specs.Fn.{Called}
+use Rattle.std.specs.List.{range_with_len}
 use Prim.Native.Nat.{ℕ, zero, suc, ◌+◌, ◌*◌, ◌-◌, ◌≤◌, ◌<◌}
 use native.Mathlib.Omega.{arith}
-use native.Mathlib.Numerals.{add-one}
 use lib.Dec.{eqb, lit≤, lit<}
-use lib.ListN.{length, take, drop, set, replicate, length-drop, length-replicate, take-append-drop}
-use lib.Seq.{set_at, append_snoc, drop_at, drop-drop, length-take-le}
+use lib.ListN.{length, get_or, take, drop, replicate, length-drop, length-replicate, take-append-drop}
+use lib.Seq.{drop_at, drop-drop, length-take-le}
 use borrow.Author.Tests.{eqb-true}
 use Rattle.codes.specs.Code.{AllOf, word, write_all}
 use Rattle.codes.specs.Number.{number_at, put}
 use Rattle.codes.proofs.Sound.{word_sound, valid_word}
 use Rattle.codes.proofs.Put.{word_length, put_fits}
-use Rattle.codes.proofs.Number.{number_is, numbers_length}
+use Rattle.codes.proofs.Number.{number_is}
 use Rattle.codes.proofs.Items.{all_length}
 use Rattle.drive.specs.Faults.{zeros}
 use Rattle.part.specs.Record.{words_at}
 
--- one word more, at the end
-words_last : (n : ℕ) (p : List ℕ) (at : ℕ) → words_at n p at ++ (number_at 2 p (at + n * 2) ∷ []) ≡ words_at (suc n) p at
-words_last zero p at = let e : at + 0 * 2 ≡ at = omega arith in rw e
-words_last (suc n) p at =
-    let e : at + suc n * 2 ≡ at + 2 + n * 2 = omega arith in
-    rw e (ap (λ (l : List ℕ). number_at 2 p at ∷ l) (words_last n p (at + 2)))
+-- what `from_fn` makes by a closure that stays as it is
+module _ {F : Type 0} {g : Mut F (ℕ × Unit {0}) ℕ} {f : F} (h : ℕ → ℕ) (call : (i y : ℕ) (q : F) → Called g f (i, tt) y q → (q ≡ f) × (y ≡ h i)) (ys : List ℕ) where
+  each_made : (i n : ℕ) → IsFromFnResultFrom g f ys i n → (k : ℕ) → i ≤ k → k < i + n → get_or ys k 0 ≡ h k
+  each_made i zero m k a b = absurd (omega arith)
+  each_made i (suc n) m k a b =
+      let u = call i m.1 m.0 m.3 in
+      go (dec_le k i) u (each_made (i + 1) n (subst (λ (q : F). IsFromFnResultFrom g q ys (i + 1) n) u.0 m.4) k)
+    where
+      go : Dec (k ≤ i) → (m.0 ≡ f) × (m.1 ≡ h i) → (i + 1 ≤ k → k < i + 1 + n → get_or ys k 0 ≡ h k) → get_or ys k 0 ≡ h k
+      go (yes y) u later = let e : k ≡ i = omega arith in rw e (m.2.1 0 ∙ u.1)
+      go (no y) u later = later (omega arith) (omega arith)
 
--- n codes of which i are read; the others are 0 yet
-abbrev pub read_so_far : ℕ → List ℕ → ℕ → ℕ → List ℕ
-read_so_far n p at i = words_at i p at ++ replicate (n - i) 0
+  made : (n : ℕ) → IsFromFnResult g f ys n → ys ≡ map h (range_with_len 0 n)
+  made n m = fill_by_all h ys n 0 m.long (λ k l. each_made 0 n m.each k (omega arith) (omega arith))
 
+-- the words, made so
 module _ (n : ℕ) (p : List ℕ) (at : ℕ) where
-  pub words_next : (i x : ℕ) → i < n → x ≡ number_at 2 p (at + i * 2) → set (read_so_far n p at i) i x ≡ read_so_far n p at (i + 1)
-  words_next i x h e =
-      let zeros = replicate {A = ℕ} (n - (i + 1)) 0 in
-      let k : n - i ≡ suc (n - (i + 1)) = omega arith in
-      ap (λ (j : ℕ). set (words_at i p at ++ replicate j 0) i x) k
-      ∙ (set_at (words_at i p at) 0 zeros x i (numbers_length 2 i p at)
-      ∙ (sym (append_snoc (words_at i p at) x zeros)
-      ∙ (ap (λ (y : ℕ). (words_at i p at ++ (y ∷ [])) ++ zeros) e
-      ∙ (ap (λ (l : List ℕ). l ++ zeros) (words_last i p at) ∙ ap (λ (j : ℕ). words_at j p at ++ zeros) (sym (add-one i))))))
+  abbrev word_in : ℕ → ℕ
+  word_in i = number_at 2 p (at + i * 2)
 
-  pub words_all : (i : ℕ) → i ≡ n → read_so_far n p at i ≡ words_at n p at
-  words_all i e =
-      let k : n - i ≡ 0 = omega arith in
-      ap (λ (j : ℕ). words_at i p at ++ replicate j 0) k ∙ (append-nil (words_at i p at) ∙ ap (λ (j : ℕ). words_at j p at) e)
+  from : (a k : ℕ) → map word_in (range_with_len a k) ≡ words_at k p (at + a * 2)
+  from a zero = refl
+  from a (suc k) =
+      let e : at + (a + 1) * 2 ≡ at + a * 2 + 2 = omega arith in
+      ap (λ (l : List ℕ). word_in a ∷ l) (from (a + 1) k ∙ ap (words_at k p) e)
+
+  pub words_made : {F : Type 0} {g : Mut F (ℕ × Unit {0}) ℕ} {f : F} (ys : List ℕ) → IsFromFnResult g f ys n
+      → ((i y : ℕ) (q : F) → Called g f (i, tt) y q → (q ≡ f) × (y ≡ number_at 2 p (at + i * 2))) → ys ≡ words_at n p at
+  words_made ys m call =
+      let e : at + 0 * 2 ≡ at = omega arith in
+      made word_in call ys n m ∙ (from 0 n ∙ ap (words_at n p) e)
 
 -- some words of a run are a run of their own
-take_words : (k n : ℕ) (p : List ℕ) (at : ℕ) → k ≤ n → take k (words_at n p at) ≡ words_at k p at
+pub take_words : (k n : ℕ) (p : List ℕ) (at : ℕ) → k ≤ n → take k (words_at n p at) ≡ words_at k p at
 take_words zero n p at h = refl
 take_words (suc k) zero p at h = absurd (omega arith)
 take_words (suc k) (suc n) p at h = ap (λ (l : List ℕ). number_at 2 p at ∷ l) (take_words k n p (at + 2) (omega arith))
 
-drop_words : (k n : ℕ) (p : List ℕ) (at : ℕ) → k ≤ n → drop k (words_at n p at) ≡ words_at (n - k) p (at + k * 2)
+pub drop_words : (k n : ℕ) (p : List ℕ) (at : ℕ) → k ≤ n → drop k (words_at n p at) ≡ words_at (n - k) p (at + k * 2)
 drop_words zero n p at h = let e : at + 0 * 2 ≡ at = omega arith in let f : n - 0 ≡ n = omega arith in rw (e, f)
 drop_words (suc k) zero p at h = absurd (omega arith)
 drop_words (suc k) (suc n) p at h =
     let e : at + 2 + k * 2 ≡ at + suc k * 2 = omega arith in
     let f : n - k ≡ suc n - suc k = omega arith in
     drop_words k n p (at + 2) (omega arith) ∙ (ap (words_at (n - k) p) e ∙ ap (λ (j : ℕ). words_at j p (at + suc k * 2)) f)
-
-pub words_within : (j k n : ℕ) (p : List ℕ) (at : ℕ) → k + j ≤ n → take j (drop k (words_at n p at)) ≡ words_at j p (at + k * 2)
-words_within j k n p at h = ap (take j) (drop_words k n p at (omega arith)) ∙ take_words j (n - k) p (at + k * 2) (omega arith)
 
 abbrev pub Words : List ℕ → Type 0
 Words = AllOf (λ (x : ℕ). x < 65536)

@@ -12,7 +12,7 @@ mod start; // start.rt: a fresh part
 pub use form::well_formed;
 pub use numbers::is_used_up;
 pub use record::{has_no_fault, load_faults, load_motion, store, store_motion};
-pub use response::{clear_response, put_response, waiting_length};
+pub use response::{clear_response, put_response, waiting, waiting_length};
 pub use start::fresh;
 
 // After the parameters stand the state, the effective setpoint, the length of the waiting response, its bytes, and the versions.

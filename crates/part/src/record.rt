@@ -1,5 +1,5 @@
 // The drive record of an axis, in and out of its part.
-ghost use Rattle.std.specs.Prelude.{◌≡◌};
+ghost use Rattle.std.specs.Prelude.{◌≡◌, ◌+◌, ◌*◌, ◌^◌, ◌<◌};
 ghost use Rattle.codes.specs.Code.{word, write_all};
 ghost use Rattle.codes.specs.Number.{put};
 ghost use Rattle.drive.specs.Faults.{buffer_codes, is_empty_of};
@@ -14,18 +14,15 @@ use drive::{Drive, Faults, Motion, N2, State};
 fn speed_at(part: &[u8], at: usize) -> N2
     ensures { result ≡ speed_at part.now at }
 {
-    N2(codes::signed16(codes::word_at(part, at)))
+    N2(codes::word_at(part, at).cast_signed())
 }
 
-// The codes of every fault situation.
-fn codes_of(part: &[u8]) -> [u16; BUFFER]
-    ensures { result ≡ words_at buffer_codes part.now (offset_of 947) }
+// N words, one after the other from `at` on.
+pub(crate) fn words_at<const N: usize>(part: &[u8], at: usize) -> [u16; N]
+    requires { at + N * 2 < 2 ^ 64 }
+    ensures { result ≡ words_at N part.now at }
 {
-    let mut b = [0u16; BUFFER];
-    for i in 0..BUFFER {
-        b[i] = codes::word_at(part, catalogue::AT_947 as usize + i * 2);
-    }
-    b
+    std::array::from_fn(|i| codes::word_at(part, at + i * 2))
 }
 
 // The faults that a part holds.
@@ -34,7 +31,7 @@ pub fn load_faults(part: &[u8]) -> Faults
 {
     Faults {
         counter: codes::word_at(part, catalogue::AT_944 as usize),
-        buffer: codes_of(part),
+        buffer: words_at(part, catalogue::AT_947 as usize),
     }
 }
 
@@ -62,13 +59,13 @@ pub fn load_motion(part: &[u8]) -> Motion
 fn put_word(part: &mut [u8], at: usize, x: u16)
     ensures { part.new ≡ put_word at x part.old }
 {
-    codes::put_number(part, at, 2, x as u32);
+    codes::put_number(part, at, 2, u32::from(x));
 }
 
 fn put_speed(part: &mut [u8], at: usize, v: N2)
     ensures { part.new ≡ put_speed at v part.old }
 {
-    put_word(part, at, codes::bits16(v.0));
+    put_word(part, at, v.0.cast_unsigned());
 }
 
 // The codes of every situation; nothing where they do not all fit.
@@ -78,8 +75,8 @@ fn put_codes(part: &mut [u8], b: [u16; BUFFER])
     if part.len() < catalogue::AT_965 as usize {
         return;
     }
-    for (i, x) in b.iter().enumerate() {
-        put_word(part, catalogue::AT_947 as usize + i * 2, *x);
+    for (i, code) in b.iter().enumerate() {
+        put_word(part, catalogue::AT_947 as usize + i * 2, *code);
     }
 }
 

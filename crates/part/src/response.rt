@@ -1,13 +1,22 @@
 // The response that waits: its length before its bytes, unused bytes 0.
-ghost use Rattle.std.specs.Prelude.{◌≡◌, [], take};
+ghost use Rattle.std.specs.Prelude.{◌≡◌, ◌≤◌, [], length, take};
 ghost use Rattle.blocks.specs.Block.{block_limit};
-ghost use Rattle.part.specs.Layout.{waiting_length, waiting, with_response};
+ghost use Rattle.part.specs.Layout.{versions_at, waiting_length, waiting, with_response};
 
 // How many bytes of a response wait; 0: none waits.
 pub fn waiting_length(part: &[u8]) -> u8
     ensures { result ≡ waiting_length part.now }
 {
     codes::byte_at(part, super::LENGTH)
+}
+
+// The bytes that wait.
+pub fn waiting(part: &[u8]) -> &[u8]
+    requires { versions_at ≤ length part.now }
+    ensures { result.now ≡ waiting part.now }
+{
+    let n = usize::from(waiting_length(part)).min(blocks::BLOCK_LIMIT);
+    &part[super::RESPONSE..super::RESPONSE + n]
 }
 
 // These bytes wait: no response is longer than a block.

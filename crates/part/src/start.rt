@@ -9,20 +9,16 @@ use drive::State;
 fn fresh_row(part: &mut [u8], r: Row)
     ensures { part.new ≡ fresh_elements r r.count part.old }
 {
-    let mut i: u16 = 0;
-    while i < r.count {
+    for i in 0..r.count {
         catalogue::put_element(part, r, i, catalogue::fresh_of(r, i));
-        i += 1;
     }
 }
 
 fn fresh_rows(part: &mut [u8])
     ensures { part.new ≡ fresh_rows rows part.old }
 {
-    let mut i: usize = 0;
-    while i < catalogue::ROWS {
+    for i in 0..catalogue::ROWS {
         fresh_row(part, catalogue::row_at(i));
-        i += 1;
     }
 }
 
@@ -33,7 +29,7 @@ pub fn fresh(part: &mut [u8])
     if part.len() != super::SIZE {
         return;
     }
-    super::runs::clear_bytes(part, 0, super::SIZE);
+    part.fill(0);
     codes::put_number(part, super::STATE, 1, u32::from(u8::from(State::S1)));
     fresh_rows(part);
     versions::fill_within(part, super::VERSIONS);

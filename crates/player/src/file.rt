@@ -29,9 +29,16 @@ impl Player {
     }
 
     // Ends the run at a record: the job is finished there, and after that the record is named.
-    fn stop_at<R: Print + Eprint>(&mut self, rt: &R, name: &str, record: u64, stop: season::Stop) {
+    fn stop_at<R: Print + Eprint>(
+        &mut self,
+        rt: &R,
+        name: &str,
+        record: u64,
+        stop: season::Stop,
+    ) -> Stop {
         self.finish(rt, Err(Stop::At(stop)));
         say(rt, name, record, stop);
+        Stop::Said
     }
 
     // Plays a file to its end, or to the record that ends the run. A proved loop has to end: this one counts up to a number of records
@@ -47,12 +54,11 @@ impl Player {
             if !self.has_record(rt, source, name)? {
                 break;
             }
-            let worked = self.work(rt);
-            if let Err(Stop::At(stop)) = worked {
-                self.stop_at(rt, name, record, stop);
-                return Err(Stop::Said);
+            match self.work(rt) {
+                Ok(()) => {}
+                Err(Stop::At(stop)) => return Err(self.stop_at(rt, name, record, stop)),
+                Err(Stop::Said) => return Err(Stop::Said),
             }
-            worked?;
         }
         Ok(())
     }

@@ -17,6 +17,7 @@ use station::STATION;
 use window::Window;
 
 // What is done with the journals: a line is written for each record, or they are counted and the counts are written at the end.
+// It is matched at two places, which is plainer than a trait that every method has a parameter for.
 #[derive(Clone, Copy)]
 pub enum Job {
     Replay,

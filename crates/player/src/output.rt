@@ -5,7 +5,7 @@ use super::Stop;
 use super::said::fail;
 
 // Bytes of output that are collected before they are written.
-const ROOM: usize = 16384;
+const OUT: usize = 16384;
 
 // Writes text, all of it.
 pub(crate) fn write<R: Print + Eprint>(rt: &R, text: &[u8]) -> Result<(), Stop> {
@@ -16,7 +16,7 @@ pub(crate) fn write<R: Print + Eprint>(rt: &R, text: &[u8]) -> Result<(), Stop> 
 // The output that is collected: as many bytes as are used.
 #[derive(Drop)]
 pub(crate) struct Output {
-    bytes: [u8; ROOM],
+    bytes: [u8; OUT],
     used: usize,
     ghost inside: { used ≤ 16384 },
 }
@@ -27,7 +27,7 @@ impl Output {
         ensures { result.used ≡ 0 }
     {
         Output {
-            bytes: [0; ROOM],
+            bytes: [0; OUT],
             used: 0,
         }
     }
@@ -45,7 +45,7 @@ impl Output {
     pub(crate) fn put_line<R: Print + Eprint>(&mut self, rt: &R, line: &[u8]) -> Result<(), Stop>
         requires { length line.now ≤ 16384 }
     {
-        if ROOM - self.used < line.len() {
+        if OUT - self.used < line.len() {
             self.flush(rt)?;
         }
         let end = self.used + line.len();

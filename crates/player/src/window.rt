@@ -6,12 +6,12 @@ use super::said::fail;
 use std::io::Read;
 
 // Bytes of a file that are read and not worked yet, at most.
-const ROOM: usize = 65536;
+const INPUT: usize = 65536;
 
 // What of a file is read and not worked yet, from `start` to `end`, and whether more may come.
 #[derive(Drop)]
 pub(crate) struct Window {
-    bytes: [u8; ROOM],
+    bytes: [u8; INPUT],
     start: usize,
     end: usize,
     open: bool,
@@ -25,7 +25,7 @@ impl Window {
         ensures { (result.start ≡ 0) × (result.end ≡ 0) }
     {
         Window {
-            bytes: [0; ROOM],
+            bytes: [0; INPUT],
             start: 0,
             end: 0,
             open: true,

@@ -17,7 +17,7 @@ type Part = [u8; part::SIZE];
 
 type Block = [u8; blocks::BLOCK_LIMIT];
 
-// The first `len` bytes, or all where there are no more.
+// The first `len` bytes, or all where there are no more. `layouts` has the same line: a crate for it would be no plainer.
 fn first(s: &[u8], len: usize) -> &[u8] {
     s.get(..len).unwrap_or(s)
 }
@@ -31,19 +31,19 @@ fn waiting(part: &Part) -> &[u8] {
 }
 
 // Works a block, prints what it comes to, and fetches the response.
-fn work(rt: &impl Print, label: &str, mut part: Part, block: &[u8]) -> io::Result<Part> {
-    let (number, stored) = match access::work(&mut part, AXIS, block) {
+fn work(rt: &impl Print, label: &str, part: &mut Part, block: &[u8]) -> io::Result<()> {
+    let (number, stored) = match access::work(part, AXIS, block) {
         Ok(stored) => (0, stored),
         Err(refused) => (u8::from(refused), 0),
     };
-    let (bytes, n) = (block.len(), part::waiting_length(&part));
+    let (bytes, n) = (block.len(), part::waiting_length(part));
     print!(rt; "{label} ({bytes} bytes): number {number}, stored {stored}, waiting {n}:")?;
-    for byte in waiting(&part) {
+    for byte in waiting(part) {
         print!(rt; " {byte:02x}")?;
     }
     rt.print("\n")?;
-    part::clear_response(&mut part);
-    Ok(part)
+    part::clear_response(part);
+    Ok(())
 }
 
 fn fresh() -> Part {
@@ -96,7 +96,7 @@ fn put_addresses(block: &mut Block, at: usize, n: u8, a: Address)
 }
 
 // A request of n equal addresses.
-fn reads(rt: &impl Print, label: &str, part: Part, n: u8, a: Address) -> io::Result<Part> {
+fn reads(rt: &impl Print, label: &str, part: &mut Part, n: u8, a: Address) -> io::Result<()> {
     let mut block = headed(1, n);
     put_addresses(&mut block, FIRST, n, a);
     work(
@@ -107,7 +107,7 @@ fn reads(rt: &impl Print, label: &str, part: Part, n: u8, a: Address) -> io::Res
     )
 }
 
-fn read(rt: &impl Print, label: &str, part: Part, a: Address) -> io::Result<Part> {
+fn read(rt: &impl Print, label: &str, part: &mut Part, a: Address) -> io::Result<()> {
     reads(rt, label, part, 1, a)
 }
 
@@ -115,22 +115,22 @@ fn read(rt: &impl Print, label: &str, part: Part, a: Address) -> io::Result<Part
 fn change(
     rt: &impl Print,
     label: &str,
-    part: Part,
+    part: &mut Part,
     a: Address,
     format: u8,
     values: &[u32],
-) -> io::Result<Part> {
+) -> io::Result<()> {
     let mut block = headed(2, 1);
     put_addresses(&mut block, FIRST, 1, a);
     blocks::writer::put_block(&mut block, FIRST + ADDRESS, format, values);
     let Some(h) = blocks::block_at(&block, FIRST + ADDRESS) else {
-        return Ok(part);
+        return Ok(());
     };
     work(rt, label, part, first(&block, h.next))
 }
 
 // Three reads of all 947, which leave 38 bytes of the response, and a fourth address.
-fn fourth(rt: &impl Print, label: &str, part: Part, a: Address) -> io::Result<Part> {
+fn fourth(rt: &impl Print, label: &str, part: &mut Part, a: Address) -> io::Result<()> {
     let mut block = headed(1, 4);
     put_addresses(&mut block, FIRST, 3, value(32, 947, 0));
     put_addresses(&mut block, FIRST + 3 * ADDRESS, 1, a);
@@ -139,15 +139,14 @@ fn fourth(rt: &impl Print, label: &str, part: Part, a: Address) -> io::Result<Pa
 
 // The worked change: mark 0 is not stored where mark 1 is outside its limits.
 fn marks(rt: &impl Print) -> io::Result<()> {
-    let part = fresh();
-    let part = work(
+    let mut part = fresh();
+    work(
         rt,
         "marks 1000 and 3001",
-        part,
+        &mut part,
         b"\x07\x02\x01\x01\x10\x02\x75\x31\x00\x00\x42\x02\x03\xE8\x0B\xB9",
     )?;
-    read(rt, "all marks", part, value(4, 30001, 0))?;
-    Ok(())
+    read(rt, "all marks", &mut part, value(4, 30001, 0))
 }
 
 // Of an address with a value outside its limits, wherever it stands, nothing is stored.
@@ -160,38 +159,38 @@ fn whole(rt: &impl Print) -> io::Result<()> {
         ("the third 3001", [1, 2, 3001, 4]),
         ("the last 3001", [1, 2, 3, 3001]),
     ] {
-        part = change(rt, label, part, all, 0x42, &marks)?;
+        change(rt, label, &mut part, all, 0x42, &marks)?;
     }
-    let part = read(rt, "all marks", part, all)?;
+    read(rt, "all marks", &mut part, all)?;
     let offsets = value(2, 30004, 0);
-    let part = change(rt, "offsets 1 and 2", part, offsets, 0x43, &[1, 2])?;
-    let part = change(
+    change(rt, "offsets 1 and 2", &mut part, offsets, 0x43, &[1, 2])?;
+    change(
         rt,
         "offsets 3 and 100001",
-        part,
+        &mut part,
         offsets,
         0x43,
         &[3, 100001],
     )?;
-    read(rt, "both offsets", part, offsets)?;
-    Ok(())
+    read(rt, "both offsets", &mut part, offsets)
 }
 
 fn limits(rt: &impl Print) -> io::Result<()> {
-    let part = fresh();
-    let part = change(rt, "mark 3000", part, value(1, 30001, 3), 0x42, &[3000])?;
-    let part = change(rt, "mark 3001", part, value(1, 30001, 3), 0x42, &[3001])?;
-    let mut part = read(rt, "all marks", part, value(4, 30001, 0))?;
+    let mark = value(1, 30001, 3);
+    let scale = value(1, 10111, 0);
+    let mut part = fresh();
+    change(rt, "mark 3000", &mut part, mark, 0x42, &[3000])?;
+    change(rt, "mark 3001", &mut part, mark, 0x42, &[3001])?;
+    read(rt, "all marks", &mut part, value(4, 30001, 0))?;
     for (label, reference) in [
         ("10111 of 0", 0),
         ("10111 of 1", 1),
         ("10111 of 60000", 60000),
         ("10111 of 60001", 60001),
     ] {
-        part = change(rt, label, part, value(1, 10111, 0), 0x42, &[reference])?;
+        change(rt, label, &mut part, scale, 0x42, &[reference])?;
     }
-    read(rt, "10111", part, value(1, 10111, 0))?;
-    Ok(())
+    read(rt, "10111", &mut part, scale)
 }
 
 // Site offsets, by size code and by type code.
@@ -207,18 +206,17 @@ fn offsets(rt: &impl Print) -> io::Result<()> {
         ("offset 100000", b, 100000),
         ("offset 100001", b, 100001),
     ] {
-        part = change(rt, label, part, address, 0x43, &[offset])?;
+        change(rt, label, &mut part, address, 0x43, &[offset])?;
     }
-    read(rt, "both offsets", part, value(2, 30004, 0))?;
-    let part = fresh();
-    let part = change(rt, "offset -100000 by 4", part, a, 4, &[low])?;
-    let part = change(rt, "offset -100001 by 4", part, a, 4, &[under])?;
-    read(rt, "both offsets", part, value(2, 30004, 0))?;
-    Ok(())
+    read(rt, "both offsets", &mut part, value(2, 30004, 0))?;
+    let mut part = fresh();
+    change(rt, "offset -100000 by 4", &mut part, a, 4, &[low])?;
+    change(rt, "offset -100001 by 4", &mut part, a, 4, &[under])?;
+    read(rt, "both offsets", &mut part, value(2, 30004, 0))
 }
 
 // n single elements of 965, which take 4 bytes each with their fill, and three reads of all 947.
-fn filled(rt: &impl Print, label: &str, part: Part, n: u8) -> io::Result<Part>
+fn filled(rt: &impl Print, label: &str, part: &mut Part, n: u8) -> io::Result<()>
     requires { n ≤ 36 }
 {
     let at = FIRST + usize::from(n) * ADDRESS;
@@ -229,20 +227,29 @@ fn filled(rt: &impl Print, label: &str, part: Part, n: u8) -> io::Result<Part>
 }
 
 fn fills(rt: &impl Print) -> io::Result<()> {
-    let part = fresh();
-    let part = read(rt, "965, element 0", part, value(1, 965, 0))?;
-    let part = read(rt, "965, element 1", part, value(1, 965, 1))?;
-    let part = read(rt, "965, both", part, value(2, 965, 0))?;
-    let part = filled(rt, "965 nine times and three reads of all 947", part, 9)?;
-    filled(rt, "965 ten times and three reads of all 947", part, 10)?;
-    Ok(())
+    let mut part = fresh();
+    read(rt, "965, element 0", &mut part, value(1, 965, 0))?;
+    read(rt, "965, element 1", &mut part, value(1, 965, 1))?;
+    read(rt, "965, both", &mut part, value(2, 965, 0))?;
+    filled(
+        rt,
+        "965 nine times and three reads of all 947",
+        &mut part,
+        9,
+    )?;
+    filled(
+        rt,
+        "965 ten times and three reads of all 947",
+        &mut part,
+        10,
+    )
 }
 
 // The most addresses, and the most bytes of a response.
 fn lengths(rt: &impl Print) -> io::Result<()> {
-    let part = fresh();
-    let part = reads(rt, "39 reads of 930", part, 39, value(1, 930, 0))?;
-    let mut part = reads(rt, "40 reads of 930, cut", part, 40, value(1, 930, 0))?;
+    let mut part = fresh();
+    reads(rt, "39 reads of 930", &mut part, 39, value(1, 930, 0))?;
+    reads(rt, "40 reads of 930, cut", &mut part, 40, value(1, 930, 0))?;
     for (label, address) in [
         ("four reads of all 947", value(32, 947, 0)),
         ("18 elements in the last 38 bytes", value(18, 947, 0)),
@@ -250,7 +257,7 @@ fn lengths(rt: &impl Print) -> io::Result<()> {
         ("0x00 before 0x15", value(32, 931, 0)),
         ("0x03 before 0x15", value(32, 947, 1)),
     ] {
-        part = fourth(rt, label, part, address)?;
+        fourth(rt, label, &mut part, address)?;
     }
     Ok(())
 }
@@ -267,7 +274,7 @@ fn read_errors(rt: &impl Print) -> io::Result<()> {
         ("0x03 of 65535 + 2", value(2, 947, 65535)),
         ("the last of 947", value(1, 947, 31)),
     ] {
-        part = read(rt, label, part, a)?;
+        read(rt, label, &mut part, a)?;
     }
     Ok(())
 }
@@ -287,10 +294,9 @@ fn change_errors(rt: &impl Print) -> io::Result<()> {
     ];
     let mut part = fresh();
     for (label, a, format, values) in cases {
-        part = change(rt, label, part, a, format, values)?;
+        change(rt, label, &mut part, a, format, values)?;
     }
-    read(rt, "10111", part, scale)?;
-    Ok(())
+    read(rt, "10111", &mut part, scale)
 }
 
 // 0 elements of a simple parameter count as 1.
@@ -298,8 +304,9 @@ fn counts(rt: &impl Print) -> io::Result<()> {
     let none = value(0, 9900, 0);
     let one = value(1, 9900, 0);
     let mark = value(1, 30001, 0);
-    let part = fresh();
-    let mut part = read(rt, "930, 0 elements", part, value(0, 930, 0))?;
+    let scale = value(1, 10111, 0);
+    let mut part = fresh();
+    read(rt, "930, 0 elements", &mut part, value(0, 930, 0))?;
     let cases: [(&str, Address, &[u32]); 4] = [
         ("9900, 0 elements, 1 value", none, &[5]),
         ("9900, 0 elements, 0 values", none, &[]),
@@ -307,54 +314,46 @@ fn counts(rt: &impl Print) -> io::Result<()> {
         ("mark, 1 element, 0 values", mark, &[]),
     ];
     for (label, a, values) in cases {
-        part = change(rt, label, part, a, 0x42, values)?;
+        change(rt, label, &mut part, a, 0x42, values)?;
     }
-    let part = read(rt, "9900", part, one)?;
-    change(
-        rt,
-        "10111 as it is",
-        part,
-        value(1, 10111, 0),
-        0x42,
-        &[1500],
-    )?;
-    Ok(())
+    read(rt, "9900", &mut part, one)?;
+    change(rt, "10111 as it is", &mut part, scale, 0x42, &[1500])
 }
 
 // A value's sign is that of the parameter's type.
 fn formats(rt: &impl Print) -> io::Result<()> {
     let minus = (-1i32).cast_unsigned();
-    let part = fresh();
-    let part = change(rt, "9900 of 65535", part, value(1, 9900, 0), 0x42, &[65535])?;
-    let part = read(rt, "9900", part, value(1, 9900, 0))?;
-    let part = change(rt, "9900 by 6", part, value(1, 9900, 0), 6, &[1])?;
-    let part = change(rt, "9900 by 3", part, value(1, 9900, 0), 3, &[2])?;
-    let part = read(rt, "9900", part, value(1, 9900, 0))?;
-    let part = change(rt, "offset -1", part, value(1, 30004, 0), 0x43, &[minus])?;
-    let part = change(rt, "offset by 7", part, value(1, 30004, 0), 7, &[1])?;
-    read(rt, "both offsets", part, value(2, 30004, 0))?;
-    Ok(())
+    let simple = value(1, 9900, 0);
+    let offset = value(1, 30004, 0);
+    let mut part = fresh();
+    change(rt, "9900 of 65535", &mut part, simple, 0x42, &[65535])?;
+    read(rt, "9900", &mut part, simple)?;
+    change(rt, "9900 by 6", &mut part, simple, 6, &[1])?;
+    change(rt, "9900 by 3", &mut part, simple, 3, &[2])?;
+    read(rt, "9900", &mut part, simple)?;
+    change(rt, "offset -1", &mut part, offset, 0x43, &[minus])?;
+    change(rt, "offset by 7", &mut part, offset, 7, &[1])?;
+    read(rt, "both offsets", &mut part, value(2, 30004, 0))
 }
 
 // Changes of two addresses.
 fn pairs(rt: &impl Print) -> io::Result<()> {
-    let part = fresh();
-    let part = work(
+    let mut part = fresh();
+    work(
         rt,
         "marks 1, 3001 and 2, then 9900 of 5",
-        part,
+        &mut part,
         b"\x07\x02\x01\x02\x10\x03\x75\x31\x00\x00\x10\x01\x26\xAC\x00\x00\x42\x03\x00\x01\x0B\xB9\x00\x02\x42\x01\x00\x05",
     )?;
-    let part = read(rt, "all marks", part, value(4, 30001, 0))?;
-    let part = read(rt, "9900", part, value(1, 9900, 0))?;
-    let part = work(
+    read(rt, "all marks", &mut part, value(4, 30001, 0))?;
+    read(rt, "9900", &mut part, value(1, 9900, 0))?;
+    work(
         rt,
         "mark 0 of 7, then of 8",
-        part,
+        &mut part,
         b"\x07\x02\x01\x02\x10\x01\x75\x31\x00\x00\x10\x01\x75\x31\x00\x00\x42\x01\x00\x07\x42\x01\x00\x08",
     )?;
-    read(rt, "all marks", part, value(4, 30001, 0))?;
-    Ok(())
+    read(rt, "all marks", &mut part, value(4, 30001, 0))
 }
 
 // What is refused leaves nothing stored and nothing waiting.
@@ -371,10 +370,9 @@ fn refusals(rt: &impl Print) -> io::Result<()> {
     ];
     let mut part = fresh();
     for (label, block) in cases {
-        part = work(rt, label, part, block)?;
+        work(rt, label, &mut part, block)?;
     }
-    read(rt, "all marks", part, value(4, 30001, 0))?;
-    Ok(())
+    read(rt, "all marks", &mut part, value(4, 30001, 0))
 }
 
 fn main(rt: HostRuntime) -> io::Result<()> {

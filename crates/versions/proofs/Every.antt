@@ -1,20 +1,21 @@
 -- Tests of every number below another: how a loop that combines them goes on, and runs of runs.
 use mathlib.Core.Path.{◌≡◌, refl, sym, ◌∙◌, ap}
-use mathlib.Core.Bool.{Bool, true, false, ◌&&◌, and-true}
+use mathlib.Core.Bool.{Bool, true, false, ◌&&◌, and-true, and-false}
 use mathlib.Core.List.Memᴰ
 use mathlib.Core.List.{List, [], ◌∷◌, Memᴰ}
 use mathlib.Core.Logic.{◌⊎◌, inl, inr}
-use Prim.Native.Nat.{ℕ, zero, suc, ◌+◌, ◌*◌}
+use Prim.Native.Nat.{ℕ, zero, suc, ◌+◌, ◌*◌, ◌<◌}
 use native.Mathlib.Omega.{arith}
 use native.Mathlib.Numerals.{add-one}
 use native.Mathlib.Nat.{add-zero, suc-mul}
 use lib.Bits.{bit_or, or_zero_l, or_add_and, and_le_r}
 use lib.Dec.{eqb}
+use lib.ListN.{length, get_or, take}
 use borrow.Author.Tests.{ne_eqb, eqb-true, eqb-false}
 use borrow.Table.Steps.{cases}
 use Rattle.codes.proofs.Demand.{both}
 use Rattle.catalogue.specs.Element.{every_element}
-use Rattle.versions.specs.Layout.{Columns}
+use Rattle.versions.specs.declared.Columns.{Columns}
 use Rattle.versions.specs.Fit.{every_columns}
 
 -- two numbers joined bit by bit leave 0 where both are
@@ -24,11 +25,7 @@ or_none a b =
     (λ e. let z = eqb-true a 0 e in rw (z, or_zero_l b))
     (λ n. rw n (ne_eqb (bit_or a b) 0 (λ e. eqb-false a 0 n (omega (arith, or_add_and a b, and_le_r a b)))))
 
--- what the first i leave, joined, is 0 where they all pass; then of the first i + 1
-pub run_next : (ok : ℕ → Bool) (i before here after : ℕ) → eqb before 0 ≡ every_element ok i → eqb here 0 ≡ ok i → eqb after 0 ≡ (eqb before 0 && eqb here 0) → eqb after 0 ≡ every_element ok (i + 1)
-run_next ok i before here after e f g = g ∙ rw (e, f, add-one i)
-
-and_assoc : (a b c : Bool) → (a && b && c) ≡ (a && (b && c))
+pub and_assoc : (a b c : Bool) → (a && b && c) ≡ (a && (b && c))
 and_assoc true b c = refl
 and_assoc false b c = refl
 
@@ -53,3 +50,22 @@ columns_at_lem ok (c ∷ cs) e q m = go (columns_at_lem ok cs (both (ok c) (ever
     go : (Memᴰ q cs → ok q ≡ true) → (q ≡ c) ⊎ Memᴰ q cs → ok q ≡ true
     go below (inl s) = ap ok s ∙ (both (ok c) (every_columns ok cs) e).0
     go below (inr k) = below k
+
+pub columns_each : (ok : Columns → Bool) (cs : List Columns) (i : ℕ) (d : Columns) → every_columns ok cs ≡ true → i < length cs → ok (get_or cs i d) ≡ true
+columns_each ok [] i d e h = absurd (omega arith)
+columns_each ok (c ∷ cs) zero d e h = (both (ok c) (every_columns ok cs) e).0
+columns_each ok (c ∷ cs) (suc i) d e h = columns_each ok cs i d (both (ok c) (every_columns ok cs) e).1 (omega arith)
+
+pub columns_unfit : (ok : Columns → Bool) (cs : List Columns) (i : ℕ) (d : Columns) → i < length cs → ok (get_or cs i d) ≡ false → every_columns ok cs ≡ false
+columns_unfit ok [] i d h f = absurd (omega arith)
+columns_unfit ok (c ∷ cs) zero d h f = rw f
+columns_unfit ok (c ∷ cs) (suc i) d h f = rw (columns_unfit ok cs i d (omega arith) f) (and-false (ok c))
+
+-- one more
+pub columns_next : (ok : Columns → Bool) (cs : List Columns) (i : ℕ) (d : Columns) → i < length cs → (every_columns ok (take i cs) && ok (get_or cs i d)) ≡ every_columns ok (take (i + 1) cs)
+columns_next ok cs i d h = rw (add-one i) (go cs i h)
+  where
+    go : (cs : List Columns) (i : ℕ) → i < length cs → (every_columns ok (take i cs) && ok (get_or cs i d)) ≡ every_columns ok (take (suc i) cs)
+    go [] i h = absurd (omega arith)
+    go (c ∷ cs) zero h = sym (and-true (ok c))
+    go (c ∷ cs) (suc i) h = and_assoc (ok c) (every_columns ok (take i cs)) (ok (get_or cs i d)) ∙ ap (λ (b : Bool). ok c && b) (go cs i (omega arith))

@@ -18,7 +18,8 @@ use Rattle.catalogue.proofs.Rows.{every_row_lem}
 use Rattle.catalogue.proofs.Every.{every_at, every_is}
 use Rattle.catalogue.specs.Element.{inside, element_of, every_element, every_row}
 use Rattle.versions.specs.Low.{low_bytes}
-use Rattle.versions.specs.Layout.{Columns, columns, columns_from, columns_of, is_setting, slots, last_at, version_bytes, setting_in, last_used, slot_of}
+use Rattle.versions.specs.declared.Columns.{Columns}
+use Rattle.versions.specs.Layout.{columns, columns_from, columns_of, is_setting, slots, last_at, version_bytes, setting_in, last_used, slot_of}
 use Rattle.versions.specs.Fit.{every_columns, columns_fit, versions_fit}
 use Rattle.versions.specs.Keep.{taken, restored, fill_slots, filled}
 use Rattle.codes.proofs.Demand.{both}

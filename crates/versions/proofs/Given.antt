@@ -16,7 +16,8 @@ use Rattle.catalogue.specs.Table.{element_size, rows, parameter_bytes}
 use Rattle.catalogue.specs.Element.{element_of, put_element}
 use Rattle.catalogue.proofs.Elements.{element_length, element_stored}
 use Rattle.catalogue.proofs.Rows.{element_inside, element_elsewhere, element_rest}
-use Rattle.versions.specs.Layout.{Columns, columns, columns_from, columns_of, is_setting, version_bytes, place_in, setting_in, slot_of}
+use Rattle.versions.specs.declared.Columns.{Columns}
+use Rattle.versions.specs.Layout.{columns, columns_from, columns_of, is_setting, version_bytes, place_in, setting_in, slot_of}
 use Rattle.versions.specs.Fit.{every_columns}
 use Rattle.versions.specs.Keep.{give_elements, give_columns, restored}
 use Rattle.versions.proofs.Every.{columns_at_lem}

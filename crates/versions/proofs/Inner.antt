@@ -4,16 +4,19 @@ use mathlib.Core.List.{List, [], ◌∷◌, ◌++◌, append-nil, Memᴰ}
 use Prim.Native.Nat.{ℕ, zero, suc, ◌+◌, ◌-◌, ◌≤◌, ◌<◌}
 use native.Mathlib.Omega.{arith}
 use lib.ListN.{length, take, drop, length-drop, take-append-drop, drop_of_length-le}
-use lib.Seq.{length-take-le, take_all}
+use lib.Dec.{eqb}
+use mathlib.Core.Bool.{Bool, true, false}
+use borrow.Author.Tests.{eqb-true, eqb-false}
+use lib.Seq.{take_all}
 use borrow.Rule.Slice.PartMut.{post_of, put_mid, Post-is}
-use Rattle.codes.specs.Number.{put, number_at}
-use Rattle.codes.proofs.Put.{put_fits}
+use Rattle.codes.specs.Number.{number_at}
 use Rattle.codes.proofs.Number.{number_within}
 use Rattle.catalogue.specs.declared.Row.{Row}
 use Rattle.catalogue.specs.Table.{element_size, rows, parameter_bytes}
 use Rattle.catalogue.specs.Element.{element_of, element_place}
 use Rattle.catalogue.proofs.Rows.{element_inside}
-use Rattle.versions.specs.Layout.{Columns, columns, slots, version_bytes}
+use Rattle.versions.specs.declared.Columns.{Columns}
+use Rattle.versions.specs.Layout.{columns, slots, last_at, version_bytes}
 use Rattle.versions.specs.Keep.{put_setting, take_elements, take_columns, fill_slots, taken, filled, taken_within, filled_within, restored, restored_within}
 use Rattle.versions.proofs.Slots.{taken_alone, filled_alone, restored_alone}
 use Rattle.versions.proofs.Given.{column_row}
@@ -54,15 +57,19 @@ pub filled_alike : (q p : List ℕ) → SameElements q p → (v : List ℕ) → 
 unfolding filled
 filled_alike q p same v = rw (slots_alike q p same v slots)
 
--- bytes put over a whole list
-put_whole : (l bs : List ℕ) → length bs ≡ length l → put l 0 bs ≡ bs
-put_whole l bs e =
-    put_fits l 0 bs (omega arith)
-    ∙ ap (λ (t : List ℕ). bs ++ t) (drop_of_length-le l {i = 0 + length bs} (omega arith))
-    ∙ append-nil bs
+-- what the test of their place says
+pub found : {b : Bool} (n m : ℕ) → b ≡ eqb n m → b ≡ true → n ≡ m
+found n m e h = eqb-true n m (sym e ∙ h)
+
+pub not_found : {b : Bool} (n m : ℕ) → b ≡ eqb n m → b ≡ false → n ≡ m → ⊥
+not_found n m e h = eqb-false n m (sym e ∙ h)
 
 -- no versions stand from `at` on
-module _ (at : ℕ) (p : List ℕ) (other : length (drop at p) ≡ version_bytes → ⊥) where
+module _ (at : ℕ) (p : List ℕ) (elsewhere : length p ≡ at + version_bytes → ⊥) where
+  other : length (drop at p) ≡ version_bytes → ⊥
+  unfolding last_at rows
+  other e = elsewhere (omega (arith, length-drop at p))
+
   pub within_alone : p ≡ taken_within at p
   unfolding taken_within
   within_alone = sym (take-append-drop at p) ∙ ap (λ (t : List ℕ). take at p ++ t) (taken_alone p (drop at p) other)
@@ -77,7 +84,7 @@ module _ (at : ℕ) (p : List ℕ) (other : length (drop at p) ≡ version_bytes
 
 -- versions of the right size
 module _ (at : ℕ) (p : List ℕ) (size : length p ≡ at + version_bytes) where
-  rest_all : take (length p - at) (drop at p) ≡ drop at p
+  pub rest_all : take (length p - at) (drop at p) ≡ drop at p
   rest_all = take_all (length p - at) (drop at p) (omega (arith, length-drop at p))
 
   none_after : post_of at (length p - at) p ≡ []
@@ -85,16 +92,11 @@ module _ (at : ℕ) (p : List ℕ) (size : length p ≡ at + version_bytes) wher
 
   -- what is done to them with a copy of the elements, where the elements are all that it reads of a part
   pub within_is : (f : List ℕ → List ℕ → List ℕ) → ((v : List ℕ) → f (take parameter_bytes p) v ≡ f p v)
-      → (zeros copied ys : List ℕ) → length zeros ≡ parameter_bytes → parameter_bytes ≤ version_bytes → copied ≡ put zeros 0 (take (parameter_bytes - 0) (drop 0 p)) → ys ≡ f copied (take (length p - at) (drop at p)) → put_mid at (length p - at) p ys ≡ take at p ++ f p (drop at p)
-  within_is f same zeros copied ys n small c e =
-      let n₀ : parameter_bytes - 0 ≡ parameter_bytes = omega arith in
-      let whole : take (parameter_bytes - 0) (drop 0 p) ≡ take parameter_bytes p = ap (λ (k : ℕ). take k p) n₀ in
-      let front : copied ≡ take parameter_bytes p = c ∙ (ap (put zeros 0) whole ∙ put_whole zeros (take parameter_bytes p) (length-take-le parameter_bytes p (omega arith) ∙ sym n)) in
-      let y : ys ≡ f p (drop at p) = e ∙ (ap (f copied) rest_all ∙ (ap (λ (l : List ℕ). f l (drop at p)) front ∙ same (drop at p))) in
+      → (copied ys : List ℕ) → copied ≡ take parameter_bytes p → ys ≡ f copied (take (length p - at) (drop at p)) → put_mid at (length p - at) p ys ≡ take at p ++ f p (drop at p)
+  within_is f same copied ys c e =
+      let y : ys ≡ f p (drop at p) = e ∙ (ap (f copied) rest_all ∙ (ap (λ (l : List ℕ). f l (drop at p)) c ∙ same (drop at p))) in
       ap (λ (t : List ℕ). take at p ++ (ys ++ t)) none_after ∙ (ap (λ (l : List ℕ). take at p ++ l) (append-nil ys ∙ y))
 
-  pub back_is : (n : ℕ) (zeros copied ys : List ℕ) → length zeros ≡ version_bytes → copied ≡ put zeros 0 (take (length p - at) (drop at p)) → ys ≡ restored copied n p → ys ≡ restored_within at n p
+  pub back_is : (n : ℕ) (copied ys : List ℕ) → copied ≡ take (length p - at) (drop at p) → ys ≡ restored copied n p → ys ≡ restored_within at n p
   unfolding restored_within
-  back_is n zeros copied ys m c e =
-      let all : copied ≡ drop at p = c ∙ (ap (put zeros 0) rest_all ∙ put_whole zeros (drop at p) (omega (arith, length-drop at p))) in
-      e ∙ ap (λ (l : List ℕ). restored l n p) all
+  back_is n copied ys c e = e ∙ ap (λ (l : List ℕ). restored l n p) (c ∙ rest_all)

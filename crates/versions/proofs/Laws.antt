@@ -10,7 +10,8 @@ use lib.ListN.{length, get_or, length-append, get_or-append}
 use lib.Seq.{get_or-append-add}
 use borrow.Author.Tests.{leb-true, le-leb}
 use Rattle.catalogue.specs.Table.{rows, parameter_bytes}
-use Rattle.versions.specs.Layout.{Columns, columns, setting_count, version_bytes, last_used, kept_count, oldest, slot_of}
+use Rattle.versions.specs.declared.Columns.{Columns}
+use Rattle.versions.specs.Layout.{columns, setting_count, version_bytes, last_used, kept_count, oldest, slot_of}
 use Rattle.versions.specs.Keep.{taken, restored}
 use Rattle.versions.specs.Laws.{Eighteen, NumbersRise, TakenAsIs, RestoredAsKept}
 use Rattle.versions.specs.Version.{list_to, over_settings, settings_of, version_of, kept_numbers, is_kept}

@@ -17,7 +17,8 @@ use Rattle.codes.proofs.Put.{put_before, put_drop}
 use Rattle.catalogue.specs.Table.{element_size, rows}
 use Rattle.catalogue.proofs.Rows.{Apart}
 use Rattle.versions.specs.Low.{low_number, low_bytes}
-use Rattle.versions.specs.Layout.{Columns, columns, columns_of, slots, last_at, place_in, setting_in}
+use Rattle.versions.specs.declared.Columns.{Columns}
+use Rattle.versions.specs.Layout.{columns, columns_of, slots, last_at, place_in, setting_in}
 use Rattle.versions.specs.Keep.{put_setting}
 use Rattle.versions.proofs.Bytewise.{bytes_length, put_next}
 use Rattle.versions.proofs.Slots.{place_inside}

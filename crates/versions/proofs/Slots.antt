@@ -4,24 +4,20 @@ use mathlib.Core.List.{List, [], ◌∷◌}
 use Prim.Native.Nat.{ℕ, zero, suc, ◌+◌, ◌*◌, ◌%◌, ◌≤◌, ◌<◌}
 use native.Mathlib.Omega.{arith}
 use native.Mathlib.Numerals.{add-one}
-use native.Mathlib.Nat.{suc-mul, mul-le-mul, mul-le-mul_right, mul_assoc}
+use native.Mathlib.Nat.{suc-mul, mul-le-mul_right, mul_assoc}
 use lib.ListN.{length, get_or}
-use borrow.Author.Tests.{eq-eqb, ne_eqb}
+use borrow.Author.Tests.{eq-eqb, ne_eqb, leb-true}
+use lib.Dec.{leb}
 use Rattle.codes.specs.Number.{put}
 use Rattle.codes.proofs.Put.{put_length}
-use Rattle.catalogue.specs.declared.Kind.{Kind}
-use Rattle.catalogue.specs.Table.{element_size, rows, no_row}
-use Rattle.catalogue.specs.Element.{element_of, put_element}
-use Rattle.catalogue.proofs.Elements.{size_small, element_length}
+use Rattle.catalogue.specs.Table.{rows, no_row}
+use Rattle.catalogue.specs.Element.{element_of}
+use Rattle.catalogue.proofs.Elements.{element_length}
 use Rattle.versions.specs.Low.{low_bytes}
-use Rattle.versions.specs.Layout.{Columns, columns, slots, last_at, version_bytes, setting_in, last_used, slot_of}
+use Rattle.versions.proofs.Every.{columns_each}
+use Rattle.versions.specs.declared.Columns.{Columns}
+use Rattle.versions.specs.Layout.{columns, columns_of, slots, last_at, version_bytes, last_used, slot_of}
 use Rattle.versions.specs.Keep.{put_setting, over_columns, take_elements, take_columns, give_elements, give_columns, taken, restored, fill_slots, filled}
-
--- a place in a row's columns is a small number
-pub place_small : (e slot z : ℕ) (k : Kind) → e < 65536 → slot < 16 → z ≡ element_size k → (e * 16 + slot) * z ≤ 4194300
-place_small e slot z k h s q =
-    let n : e * 16 + slot ≤ 1048575 = omega arith in
-    mul-le-mul {n₁ = e * 16 + slot} {m₁ = z} {n₂ = 1048575} {m₂ = 4} n (omega (arith, size_small k))
 
 -- and inside them
 pub place_inside : (e slot z n : ℕ) → e < n → slot < 16 → (e * 16 + slot) * z + z ≤ 16 * (n * z)
@@ -37,9 +33,6 @@ module _ (c : Columns) (slot : ℕ) (p v : List ℕ) where
   take-length zero = refl
   take-length (suc e) = put_length (take_elements c slot p e v) _ _ ∙ take-length e
 
-  pub give_next : (e : ℕ) → put_element c.row e (setting_in c e slot v) (give_elements c slot v e p) ≡ give_elements c slot v (e + 1) p
-  give_next e = rw (add-one e)
-
   pub give_length : (e : ℕ) → length (give_elements c slot v e p) ≡ length p
   give_length zero = refl
   give_length (suc e) = element_length c.row e _ (give_elements c slot v e p) ∙ give_length e
@@ -52,9 +45,13 @@ over_length f h (c ∷ cs) v = over_length f h cs (f c v) ∙ h c v
 pub columns_length : (cs : List Columns) (slot : ℕ) (p v : List ℕ) → length (take_columns cs slot p v) ≡ length v
 columns_length cs slot p = over_length _ (λ c v. take-length c slot p v c.row.count) cs
 
+-- what stands past the last of them
+abbrev pub no_columns : Columns
+no_columns = record { row = no_row; at = 0 }
+
 -- the columns of the k-th row that is a setting
 unfoldable pub columns_at : ℕ → Columns
-columns_at k = get_or columns k (record { row = no_row; at = 0 })
+columns_at k = get_or columns k no_columns
 
 -- the rows that are settings, one by one
 module _ (f : Columns → List ℕ → List ℕ) (v0 v1 v2 v3 v4 v5 v6 v7 : List ℕ) where
@@ -64,6 +61,11 @@ module _ (f : Columns → List ℕ → List ℕ) (v0 v1 v2 v3 v4 v5 v6 v7 : List
   pub each_row : v1 ≡ done 0 v0 → v2 ≡ done 1 v1 → v3 ≡ done 2 v2 → v4 ≡ done 3 v3 → v5 ≡ done 4 v4 → v6 ≡ done 5 v5 → v7 ≡ done 6 v6 → v7 ≡ over_columns f columns v0
   unfolding columns columns_at rows
   each_row e1 e2 e3 e4 e5 e6 e7 = e7 ∙ ap (done 6) (e6 ∙ ap (done 5) (e5 ∙ ap (done 4) (e4 ∙ ap (done 3) (e3 ∙ ap (done 2) (e2 ∙ ap (done 1) e1)))))
+
+-- each stands before the last number
+pub column_room : (i : ℕ) (d : Columns) (n : ℕ) → i < 7 → n ≡ version_bytes → (get_or columns i d).at + columns_of (get_or columns i d).row ≤ n
+unfolding columns last_at rows
+column_room i d n h e = omega (arith, leb-true _ _ (columns_each (λ c. leb (c.at + columns_of c.row) 640) columns i d refl h))
 
 -- a list of another size is left as it is
 module _ (p v : List ℕ) (other : length v ≡ version_bytes → ⊥) where
@@ -93,9 +95,6 @@ module _ (p v : List ℕ) (size : length v ≡ version_bytes) where
   pub filled_is : put (fill_slots slots p v) last_at (low_bytes 2 0) ≡ filled p v
   unfolding filled
   filled_is = rw (eq-eqb (length v) version_bytes size)
-
-pub fill_next : (p v : List ℕ) (n : ℕ) → take_columns columns n p (fill_slots n p v) ≡ fill_slots (n + 1) p v
-fill_next p v n = rw (add-one n)
 
 pub fill_length : (p v : List ℕ) (n : ℕ) → length (fill_slots n p v) ≡ length v
 fill_length p v zero = refl

@@ -14,7 +14,8 @@ use Rattle.catalogue.specs.Table.{element_size}
 use Rattle.catalogue.specs.Element.{element_of}
 use Rattle.catalogue.proofs.Elements.{element_small}
 use Rattle.versions.specs.Low.{low_number, low_bytes}
-use Rattle.versions.specs.Layout.{Columns, columns, slots, last_at, version_bytes, place_in, setting_in, last_used, slot_of}
+use Rattle.versions.specs.declared.Columns.{Columns}
+use Rattle.versions.specs.Layout.{columns, slots, last_at, version_bytes, place_in, setting_in, last_used, slot_of}
 use Rattle.versions.specs.Keep.{put_setting, take_elements, take_columns, taken, fill_slots, filled}
 use Rattle.versions.proofs.Slots.{take-length, columns_length, taken_is, filled_is, fill_length}
 use Rattle.versions.proofs.Places.{low_put, low_before, setting_before, setting_elsewhere}

@@ -4,7 +4,8 @@ use Rattle.std.specs.Prelude.{Bool, true, ◌&&◌, List, [], ◌∷◌, ℕ, ze
 use Rattle.catalogue.specs.Table.{element_size}
 use Rattle.catalogue.specs.Element.{inside}
 use Rattle.versions.specs.Low.{low_number}
-use Rattle.versions.specs.Layout.{Columns, columns, slots, version_bytes}
+use Rattle.versions.specs.declared.Columns.{Columns}
+use Rattle.versions.specs.Layout.{columns, slots, version_bytes}
 
 -- a test of n numbers of w bytes, one after the other
 abbrev pub every_number : ℕ → (ℕ → Bool) → ℕ → List ℕ → Bool

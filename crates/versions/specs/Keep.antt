@@ -5,7 +5,8 @@ use Rattle.codes.specs.Number.{put}
 use Rattle.catalogue.specs.Table.{element_size}
 use Rattle.catalogue.specs.Element.{element_of, put_element}
 use Rattle.versions.specs.Low.{low_bytes}
-use Rattle.versions.specs.Layout.{Columns, columns, last_at, version_bytes, place_in, setting_in, last_used, slot_of, slots}
+use Rattle.versions.specs.declared.Columns.{Columns}
+use Rattle.versions.specs.Layout.{columns, last_at, version_bytes, place_in, setting_in, last_used, slot_of, slots}
 
 abbrev pub put_setting : Columns → ℕ → ℕ → ℕ → List ℕ → List ℕ
 put_setting c e slot x v = put v (place_in c e slot) (low_bytes (element_size c.row.kind) x)

@@ -4,6 +4,7 @@
 use Rattle.std.specs.Prelude.{Bool, cond, List, [], ◌∷◌, ℕ, ◌+◌, ◌-◌, ◌*◌, ◌%◌, min, eqb, length}
 use Rattle.catalogue.specs.declared.Row.{Row}
 use Rattle.catalogue.specs.Table.{element_size, bytes_of, rows}
+use Rattle.versions.specs.declared.Columns.{Columns}
 use Rattle.versions.specs.Low.{low_number}
 
 -- "its writable elements"
@@ -12,11 +13,6 @@ is_setting r = r.writable
 
 abbrev pub slots : ℕ
 slots = 16
-
--- the columns of a row's elements, one after the other from a place on
-pub record Columns : Type 0 where
-  pub row : Row
-  pub at : ℕ
 
 abbrev pub columns_of : Row → ℕ
 columns_of r = slots * bytes_of r

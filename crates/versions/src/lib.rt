@@ -7,6 +7,7 @@ mod low; // low.rt: numbers low byte first
 mod numbers; // numbers.rt: which numbers are kept
 mod within; // within.rt: versions that stand in the part itself
 
+use catalogue::Row;
 pub use limits::fit;
 pub use numbers::{Kept, is_kept, last_used, list};
 pub use within::{fill_within, restore_within, take_within};
@@ -31,6 +32,59 @@ const AT_30004: usize = AT_30003 + SLOTS * 2;
 
 // After them stands the last number used.
 const LAST: usize = AT_30004 + SLOTS * 4 * 2;
+
+// A row of settings, and where its columns stand.
+#[derive(Clone, Copy)]
+struct Columns {
+    row: Row,
+    at: usize,
+}
+
+// The rows that are settings, by their names and in the order of the table.
+const COLUMNS_9900: Columns = Columns {
+    row: catalogue::ROW_9900,
+    at: AT_9900,
+};
+
+const COLUMNS_9901: Columns = Columns {
+    row: catalogue::ROW_9901,
+    at: AT_9901,
+};
+
+const COLUMNS_10111: Columns = Columns {
+    row: catalogue::ROW_10111,
+    at: AT_10111,
+};
+
+const COLUMNS_30001: Columns = Columns {
+    row: catalogue::ROW_30001,
+    at: AT_30001,
+};
+
+const COLUMNS_30002: Columns = Columns {
+    row: catalogue::ROW_30002,
+    at: AT_30002,
+};
+
+const COLUMNS_30003: Columns = Columns {
+    row: catalogue::ROW_30003,
+    at: AT_30003,
+};
+
+const COLUMNS_30004: Columns = Columns {
+    row: catalogue::ROW_30004,
+    at: AT_30004,
+};
+
+const COLUMNS: [Columns; 7] = [
+    COLUMNS_9900,
+    COLUMNS_9901,
+    COLUMNS_10111,
+    COLUMNS_30001,
+    COLUMNS_30002,
+    COLUMNS_30003,
+    COLUMNS_30004,
+];
 
 // Bytes of a farm's versions.
 pub const SIZE: usize = LAST + 2;

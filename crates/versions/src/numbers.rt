@@ -19,23 +19,17 @@ pub fn last_used(v: &[u8]) -> u16
     if v.len() != super::SIZE {
         return 0;
     }
-    super::low::word_at(v, super::LAST)
+    u16::from_le_bytes([v[super::LAST], v[super::LAST + 1]])
 }
 
 pub fn list(v: &[u8]) -> Kept
     ensures { (result.oldest ≡ oldest v.now) × (result.count ≡ kept_count v.now) }
 {
     let last = last_used(v);
-    if last < MOST {
-        Kept {
-            oldest: 1,
-            count: last,
-        }
-    } else {
-        Kept {
-            oldest: last - MOST + 1,
-            count: MOST,
-        }
+    let count = last.min(MOST);
+    Kept {
+        oldest: last - count + 1,
+        count,
     }
 }
 
@@ -44,9 +38,5 @@ pub fn is_kept(v: &[u8], n: u32) -> bool
     ensures { result ≡ is_kept n v.now }
 {
     let k = list(v);
-    if k.oldest as u32 <= n {
-        n <= last_used(v) as u32
-    } else {
-        false
-    }
+    u32::from(k.oldest) <= n && n <= u32::from(last_used(v))
 }

@@ -3,14 +3,8 @@ use mathlib.Core.Path.{sym, ◌∙◌}
 use native.Mathlib.Omega.{arith}
 use borrow.Author.Tests.{eq-eqb, ne_eqb}
 use Rattle.codes.proofs.Fixed.{Bytes}
-use Rattle.checker.proofs.Comparing.{by_bytes, ends_there, both_long, asked_range, both_count}
+use Rattle.checker.proofs.Comparing.{by_bytes, ends_there, asked_range, both_count}
 use Rattle.checker.proofs.compare.Goals as goal
-
-pub bounds-response-0 : goal.bounds-response-0
-bounds-response-0 c = omega (arith, both_long _ _ c.requires)
-
-pub bounds-request-0 : goal.bounds-request-0
-bounds-request-0 c = omega (arith, both_long _ _ c.requires)
 
 pub returns-then-response-request : goal.returns-then-response-request
 returns-then-response-request c q r es et =
@@ -20,12 +14,6 @@ returns-then-response-request c q r es et =
     rw (← by_bytes _ _ q r es et bs bt)
     (simp (ne_eqb _ _ c.if-response-request.true))
 
-pub bounds-response-2 : goal.bounds-response-2
-bounds-response-2 c = omega (arith, both_long _ _ c.requires)
-
-pub bounds-request-2 : goal.bounds-request-2
-bounds-request-2 c = omega (arith, both_long _ _ c.requires)
-
 pub returns-then-response-request-2 : goal.returns-then-response-request-2
 returns-then-response-request-2 c q r es et =
     let a = c.args in
@@ -34,12 +22,6 @@ returns-then-response-request-2 c q r es et =
     rw (← by_bytes _ _ q r es et bs bt)
     (simp (eq-eqb _ _ c.if-response-request.false, ne_eqb _ _ c.if-response-request-2.true))
 
-pub bounds-response-3 : goal.bounds-response-3
-bounds-response-3 c = omega (arith, both_long _ _ c.requires)
-
-pub bounds-request-3 : goal.bounds-request-3
-bounds-request-3 c = omega (arith, both_long _ _ c.requires)
-
 pub returns-then-response-request-3 : goal.returns-then-response-request-3
 returns-then-response-request-3 c q r es et =
     let a = c.args in
@@ -47,12 +29,6 @@ returns-then-response-request-3 c q r es et =
     let bt : Bytes a.response.now = λ i. omega (arith, c.type_inv.response i) in
     rw (← by_bytes _ _ q r es et bs bt)
     (simp (eq-eqb _ _ c.if-response-request.false, eq-eqb _ _ c.if-response-request-2.false, ne_eqb _ _ c.if-response-request-3.true))
-
-pub bounds-request-1 : goal.bounds-request-1
-bounds-request-1 c = omega (arith, both_long _ _ c.requires)
-
-pub bounds-response-1 : goal.bounds-response-1
-bounds-response-1 c = omega (arith, both_long _ _ c.requires)
 
 pub is_matching-requires : goal.is_matching-requires
 is_matching-requires c =
@@ -75,9 +51,6 @@ returns-then-response-eq2 c q r es et =
     let bt : Bytes a.response.now = λ i. omega (arith, c.type_inv.response i) in
     rw (← by_bytes _ _ q r es et bs bt)
     (simp (eq-eqb _ _ c.if-response-request.false, eq-eqb _ _ c.if-response-request-2.false, eq-eqb _ _ c.if-response-request-3.false, sym c.is_matching.ensures ∙ c.if-not-is_matching.false, ends_there _ _ q r es et bt c.if-response-eq2.true))
-
-pub bounds-request-3-2 : goal.bounds-request-3-2
-bounds-request-3-2 c = omega (arith, both_long _ _ c.requires)
 
 pub counts_fit-requires : goal.counts_fit-requires
 counts_fit-requires c =

@@ -1,12 +1,9 @@
 -- The loop's invariant: what is left to be held against the addresses is what was to be held at first, and stands in both blocks.
-use Prim.Native.Nat.{◌<◌}
+use Prim.Native.Nat.{◌-◌, ◌<◌}
 use Rattle.checker.specs.Inner.{AsRead}
 use Rattle.checker.proofs.Counting.{Counting, Stand}
 use Rattle.checker.proofs.counts_fit.Given as goal
 
-abbrev pub invariant-loop-left : goal.invariant-loop-left
-invariant-loop-left l =
-    AsRead l.request l.response (λ q r. Counting l.request l.response q r l.from l.at l.left) × (0 < l.left → Stand l.request l.response l.from l.at)
-
-abbrev pub decreases-loop-left : goal.decreases-loop-left
-decreases-loop-left l = l.left
+abbrev pub invariant-loop : goal.invariant-loop
+invariant-loop l =
+    AsRead l.request l.response (λ q r. Counting l.request l.response q r l.from l.at (l.count - l.counter)) × (0 < l.count - l.counter → Stand l.request l.response l.from l.at)

@@ -1,33 +1,30 @@
--- The first i elements are as fresh.
-use Rattle.part.proofs.Every.{unasked, asked_unfit, asked_fit}
-use mathlib.Core.Bool.{◌||◌, false}
-use borrow.Author.Tests.{ne_eqb}
+-- All elements of a row that is asked are as fresh.
+use Rattle.part.proofs.Every.{unasked, asked_all}
 use Rattle.part.specs.WellFormed.{fixed_fit}
 use Rattle.catalogue.specs.Element.{element_of, fresh_of}
+use Rattle.std.proofs.lemmas.Iterator.{YieldsList-from_range}
+use Rattle.std.proofs.lemmas.Iterator.Search.{all_from_yields_List}
+use Rattle.std.proofs.Common.{rules, tests}
+use Rattle.std.proofs.lemmas.Bool.Decides.{nat_tests}
 use lib.Dec.{eqb}
 use Prim.Native.Nat.{ℕ}
 use native.Mathlib.Omega.{arith}
-use mathlib.Core.Path.{◌≡◌, sym, ◌∙◌}
+use mathlib.Core.Bool.{not, ◌||◌}
+use mathlib.Core.Path.{◌≡◌, refl, sym, ◌∙◌, ap}
 use Rattle.part.proofs.form.fixed_fits.Goals as goal
+use Rattle.part.proofs.form.fixed_fits.Goals.{then-r-eq930, else-r-eq930}
 
-pub returns-then-not-either : goal.returns-then-not-either
+pub returns-then-not-is_fixed : goal.returns-then-not-is_fixed
 unfolding fixed_fit
-returns-then-not-either c =
+returns-then-not-is_fixed c =
     let a = c.args in
-    unasked (eqb a.r.pnu 930 || eqb a.r.pnu 965) (λ (k : ℕ). eqb (element_of a.r k a.part.now) (fresh_of a.r k)) a.r.count 0 (sym c.either.ensures ∙ c.if-not-either.true)
+    let asked : (eqb a.r.pnu 930 || eqb a.r.pnu 965) ≡ c.if-r-eq930.is_fixed = search (rules, tests) in
+    ap not (sym asked) ∙ unasked (λ (i : ℕ). eqb (element_of a.r i a.part.now) (fresh_of a.r i)) (eqb a.r.pnu 930 || eqb a.r.pnu 965) a.r.count (asked ∙ c.if-not-is_fixed.true)
 
-pub returns-then-x-fresh_of : goal.returns-then-x-fresh_of
+pub returns-else-not-is_fixed : goal.returns-else-not-is_fixed
 unfolding fixed_fit
-returns-then-x-fresh_of c =
+returns-else-not-is_fixed c =
     let a = c.args in
-    let i = c.loop-i.i in
-    let out : eqb (element_of a.r i a.part.now) (fresh_of a.r i) ≡ false =
-    rw (← c.element-x.ensures, ← c.fresh_of.ensures) (ne_eqb _ _ c.if-x-fresh_of.true) in
-    asked_unfit (eqb a.r.pnu 930 || eqb a.r.pnu 965) (λ (k : ℕ). eqb (element_of a.r k a.part.now) (fresh_of a.r k)) a.r.count i (sym c.either.ensures ∙ c.if-not-either.false) (omega arith) out
-
-pub returns : goal.returns
-unfolding fixed_fit
-returns c =
-    let a = c.args in
-    let l = c.loop-i in
-    asked_fit (eqb a.r.pnu 930 || eqb a.r.pnu 965) (λ (k : ℕ). eqb (element_of a.r k a.part.now) (fresh_of a.r k)) a.r.count l.i (sym c.either.ensures ∙ c.if-not-either.false) (omega arith) l.invariant.1
+    let asked : (eqb a.r.pnu 930 || eqb a.r.pnu 965) ≡ c.if-r-eq930.is_fixed = grind (arith, nat_tests) in
+    all_from_yields_List (λ (i : ℕ). eqb (element_of a.r i a.part.now) (fresh_of a.r i)) _ _ c.all.result c.all.ensures.ran (YieldsList-from_range 0 a.r.count a.r.count refl (omega arith)) (λ x b q k. search (rules, tests))
+    ∙ asked_all (λ (i : ℕ). eqb (element_of a.r i a.part.now) (fresh_of a.r i)) (eqb a.r.pnu 930 || eqb a.r.pnu 965) a.r.count (asked ∙ c.if-not-is_fixed.false)

@@ -1,19 +1,22 @@
 -- Of 930 and 965; no other row is fixed.
-use Rattle.part.proofs.Every.{row_unfit, row_fits, after_930}
+use Rattle.part.proofs.Every.{fixed_rows}
 use Rattle.part.specs.WellFormed.{fixed_fit}
 use Rattle.catalogue.specs.Table.{rows, row_at}
-use lib.Dec.{lit<}
-use mathlib.Core.Path.{sym, ◌∙◌}
+use Rattle.std.proofs.Common.{rules, tests}
+use mathlib.Core.Bool.{◌&&◌}
+use mathlib.Core.Path.{◌≡◌, ◌∙◌}
 use Rattle.part.proofs.form.fixed_rows_fit.Goals as goal
 
-pub returns-then-not-fixed_fits : goal.returns-then-not-fixed_fits
+pub returns-then-fixed_fits : goal.returns-then-fixed_fits
 unfolding rows row_at
-returns-then-not-fixed_fits c =
+returns-then-fixed_fits c =
     let p = c.args.part.now in
-    sym (row_unfit (fixed_fit p) 0 (lit< tt) (sym c.fixed_fits.ensures ∙ c.if-not-fixed_fits.true))
+    let both : c.fixed_fits-then-fixed_fits.result ≡ (fixed_fit p (row_at 0) && fixed_fit p (row_at 3)) = search (rules, tests) in
+    both ∙ fixed_rows p
 
-pub returns : goal.returns
+pub returns-else-fixed_fits : goal.returns-else-fixed_fits
 unfolding rows row_at
-returns c =
+returns-else-fixed_fits c =
     let p = c.args.part.now in
-    c.fixed_fits-2.ensures ∙ sym (row_fits (fixed_fit p) 0 (lit< tt) (sym c.fixed_fits.ensures ∙ c.if-not-fixed_fits.false) ∙ after_930 p)
+    let both : c.fixed_fits.result ≡ (fixed_fit p (row_at 0) && fixed_fit p (row_at 3)) = search (rules, tests) in
+    both ∙ fixed_rows p

@@ -1,32 +1,24 @@
--- The first i elements are inside.
-use Rattle.part.proofs.Every.{unasked, asked_unfit, asked_fit}
+-- All elements of a row that is asked are inside.
+use Rattle.part.proofs.Every.{unasked, asked_all}
 use Rattle.part.specs.WellFormed.{limits_fit}
 use Rattle.catalogue.specs.Element.{inside, element_of}
-use borrow.Author.Tests.{not-true, not-false}
-use mathlib.Core.Bool.{false}
+use Rattle.std.proofs.lemmas.Iterator.{YieldsList-from_range}
+use Rattle.std.proofs.lemmas.Iterator.Search.{all_from_yields_List}
+use Rattle.std.proofs.Common.{rules, tests}
 use Prim.Native.Nat.{ℕ}
+use mathlib.Core.Path.{refl, ◌∙◌}
 use native.Mathlib.Omega.{arith}
-use mathlib.Core.Path.{◌≡◌, sym, ◌∙◌, ap}
 use Rattle.part.proofs.form.limits_fit.Goals as goal
 
 pub returns-then-not-r : goal.returns-then-not-r
 unfolding limits_fit
 returns-then-not-r c =
     let a = c.args in
-    unasked a.r.writable (λ (k : ℕ). inside a.r (element_of a.r k a.part.now)) a.r.count 0 (not-true _ c.if-not-r.true)
+    unasked (λ (i : ℕ). inside a.r (element_of a.r i a.part.now)) a.r.writable a.r.count c.if-not-r.true
 
-pub returns-then-not-is_inside : goal.returns-then-not-is_inside
+pub returns-else-not-r : goal.returns-else-not-r
 unfolding limits_fit
-returns-then-not-is_inside c =
+returns-else-not-r c =
     let a = c.args in
-    let i = c.loop-i.i in
-    let out : inside a.r (element_of a.r i a.part.now) ≡ false =
-    ap (inside a.r) (sym c.element-x.ensures) ∙ (sym c.is_inside.ensures ∙ c.if-not-is_inside.true) in
-    asked_unfit a.r.writable (λ (k : ℕ). inside a.r (element_of a.r k a.part.now)) a.r.count i (not-false _ c.if-not-r.false) (omega arith) out
-
-pub returns : goal.returns
-unfolding limits_fit
-returns c =
-    let a = c.args in
-    let l = c.loop-i in
-    asked_fit a.r.writable (λ (k : ℕ). inside a.r (element_of a.r k a.part.now)) a.r.count l.i (not-false _ c.if-not-r.false) (omega arith) l.invariant.1
+    all_from_yields_List (λ (i : ℕ). inside a.r (element_of a.r i a.part.now)) _ _ c.all.result c.all.ensures.ran (YieldsList-from_range 0 a.r.count a.r.count refl (omega arith)) (λ x b q k. search (rules, tests))
+    ∙ asked_all (λ (i : ℕ). inside a.r (element_of a.r i a.part.now)) a.r.writable a.r.count c.if-not-r.false

@@ -1,31 +1,18 @@
--- The situations before k fit.
-use Rattle.part.proofs.Situations.{from_situation, situation_is, situation_unfit, situation_next}
+-- One situation after the other.
+use Rattle.part.proofs.Situations.{all_situations}
 use Rattle.part.specs.Record.{words_at}
-use Rattle.drive.specs.Faults.{situations, buffer_codes, proper}
+use Rattle.drive.specs.Faults.{situation_codes, proper}
 use Rattle.catalogue.specs.Table.{rows, find_of, offset_of}
-use native.Mathlib.Omega.{arith}
-use mathlib.Core.Path.{◌≡◌, sym, ◌∙◌, ap}
+use Rattle.std.proofs.lemmas.Iterator.{YieldsList-from_range}
+use Rattle.std.proofs.lemmas.Iterator.Search.{all_from_yields_List}
+use Rattle.std.proofs.Common.{rules, tests}
+use Prim.Native.Nat.{ℕ, ◌+◌, ◌*◌}
+use mathlib.Core.Path.{refl, ◌∙◌}
 use Rattle.part.proofs.form.situations_fit.Goals as goal
 
-pub returns-then-not-situation_fits : goal.returns-then-not-situation_fits
-unfolding offset_of find_of rows
-returns-then-not-situation_fits c =
-    let l = c.loop-k in
-    let p = c.args.part.now in
-    let unfit = situation_is p (offset_of 947) l.k (omega arith) ∙ (ap proper (sym c.codes_at-s.ensures) ∙ (sym c.situation_fits.ensures ∙ c.if-not-situation_fits.true)) in
-    sym (l.invariant.1 ∙ situation_unfit (words_at buffer_codes p (offset_of 947)) l.k (omega arith) unfit)
-
-pub loop-k-preserved : goal.loop-k-preserved
-unfolding offset_of find_of rows
-loop-k-preserved c =
-    let l = c.loop-k in
-    let p = c.args.part.now in
-    let fit = situation_is p (offset_of 947) l.k (omega arith) ∙ (ap proper (sym c.codes_at-s.ensures) ∙ (sym c.situation_fits.ensures ∙ c.if-not-situation_fits.false)) in
-    (omega arith, l.invariant.1 ∙ situation_next (words_at buffer_codes p (offset_of 947)) l.k (omega arith) fit)
-
 pub returns : goal.returns
+unfolding offset_of find_of rows
 returns c =
-    let l = c.loop-k in
     let p = c.args.part.now in
-    let e : l.k ≡ situations = omega arith in
-    sym (l.invariant.1 ∙ ap (from_situation (words_at buffer_codes p (offset_of 947))) e)
+    all_from_yields_List (λ (k : ℕ). proper (words_at situation_codes p (offset_of 947 + k * (situation_codes * 2)))) _ _ c.all.result c.all.ensures.ran (YieldsList-from_range 0 4 4 refl refl) (λ x b q k. search (rules, tests))
+    ∙ all_situations p (offset_of 947)

@@ -2,28 +2,33 @@
 use Rattle.part.specs.Layout.{response_at}
 use Rattle.catalogue.specs.Table.{rows, parameter_bytes}
 use Rattle.versions.specs.Layout.{last_at}
-use Rattle.part.proofs.Waits.{unused_none, unused_is}
+use Rattle.part.proofs.Waits.{waiting_bytes, unused_is}
+use lib.ListN.{length}
 use Prim.Native.Nat.{◌+◌}
 use native.Mathlib.Omega.{arith}
-use mathlib.Core.Path.{refl, ◌∙◌}
+use mathlib.Core.Path.{refl, ◌∙◌, ap}
+use borrow.Author.Rules.{rules}
 use Rattle.part.proofs.form.unused_fits.Goals as goal
 
 pub slice_bounds-is_clear-end : goal.slice_bounds-is_clear-end
 unfolding parameter_bytes rows last_at
 slice_bounds-is_clear-end c = omega arith
 
-pub returns-then-n-eq0 : goal.returns-then-n-eq0
+pub returns-then-waiting_length-eq0 : goal.returns-then-waiting_length-eq0
 unfolding parameter_bytes rows last_at
-returns-then-n-eq0 c =
-    let n = c.wide-n in
-    let p = c.args.part.now in
-    c.is_clear.ensures
-    ∙ unused_is p n.result (n.ensures ∙ c.waiting_length.ensures) c.requires (omega arith) response_at (omega arith)
+returns-then-waiting_length-eq0 c = c.is_clear.ensures ∙ unused_is c.args.part.now (omega arith) 0 response_at (omega arith) (omega arith)
 
-pub returns-then-n-gt-BLOCK_LIMIT : goal.returns-then-n-gt-BLOCK_LIMIT
-returns-then-n-gt-BLOCK_LIMIT c =
-    let n = c.wide-n in
-    unused_none c.args.part.now n.result (n.ensures ∙ c.waiting_length.ensures) (omega arith)
+pub waiting-requires : goal.waiting-requires
+unfolding parameter_bytes rows last_at
+waiting-requires c = search (rules, arith)
+
+pub slice_bounds-is_clear-count-2 : goal.slice_bounds-is_clear-count-2
+unfolding parameter_bytes rows last_at
+slice_bounds-is_clear-count-2 c = omega (arith, ap length c.waiting.ensures, waiting_bytes c.args.part.now (omega arith))
+
+pub slice_bounds-is_clear-start-2 : goal.slice_bounds-is_clear-start-2
+unfolding parameter_bytes rows last_at
+slice_bounds-is_clear-start-2 c = omega (arith, ap length c.waiting.ensures, waiting_bytes c.args.part.now (omega arith))
 
 pub slice_bounds-is_clear-end-2 : goal.slice_bounds-is_clear-end-2
 unfolding parameter_bytes rows last_at
@@ -32,7 +37,6 @@ slice_bounds-is_clear-end-2 c = omega arith
 pub returns : goal.returns
 unfolding parameter_bytes rows last_at
 returns c =
-    let n = c.wide-n in
     let p = c.args.part.now in
-    c.is_clear-2.ensures
-    ∙ unused_is p n.result (n.ensures ∙ c.waiting_length.ensures) c.requires (omega arith) (response_at + n.result) refl
+    let n = length c.waiting.result.now in
+    c.is_clear-2.ensures ∙ unused_is p (omega arith) n (response_at + n) (ap length c.waiting.ensures ∙ waiting_bytes p (omega arith)) refl

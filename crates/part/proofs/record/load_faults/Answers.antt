@@ -4,4 +4,4 @@ use Rattle.part.proofs.record.load_faults.Goals as goal
 
 pub returns : goal.returns
 unfolding offset_of find_of rows
-returns c = rw (c.word_at.ensures, c.codes_of.ensures)
+returns c = rw (c.word_at.ensures, c.words_at.ensures)

@@ -21,8 +21,7 @@ returns-then-part c =
     sym (put_too_long a.part.now (offset_of 947) (write_all (word 2).write a.b) (omega (arith, all_length (word 2).write 2 (word_length 2) a.b)))
 
 pub loop-i-init : goal.loop-i-init
-loop-i-init c =
-    sym (put_none c.args.part.now (offset_of 947))
+loop-i-init c = sym (put_none c.args.part.now (offset_of 947))
 
 pub loop-i-preserved : goal.loop-i-preserved
 unfolding offset_of find_of rows

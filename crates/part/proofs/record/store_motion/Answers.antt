@@ -1,7 +1,7 @@
 -- Each field is put at its place, in the order of the definition.
 use Prim.Native.Nat.{◌<◌}
 use native.Mathlib.Omega.{arith}
-use Rattle.part.proofs.Waiting.{byte_written}
+use Rattle.part.proofs.StoredResponse.{byte_written}
 use Rattle.catalogue.specs.Table.{rows, parameter_bytes, find_of, offset_of}
 use Rattle.part.proofs.record.store_motion.Goals as goal
 

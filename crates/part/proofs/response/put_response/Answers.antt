@@ -2,7 +2,7 @@
 use Rattle.catalogue.specs.Table.{rows, parameter_bytes}
 use Rattle.codes.specs.Number.{put}
 use Rattle.part.specs.Layout.{response_at}
-use Rattle.part.proofs.Waiting.{response_unput, response_put}
+use Rattle.part.proofs.StoredResponse.{response_unput, response_put}
 use lib.ListN.{length, take}
 use Prim.Native.Nat.{ℕ}
 use mathlib.Core.List.{List}

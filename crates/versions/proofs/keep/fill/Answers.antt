@@ -1,5 +1,5 @@
 -- The first i slots hold them.
-use mathlib.Core.Path.{◌≡◌, ◌∙◌, ap}
+use mathlib.Core.Path.{◌≡◌, refl, ◌∙◌, ap}
 use mathlib.Core.List.{List}
 use Prim.Native.Nat.{ℕ}
 use native.Mathlib.Omega.{arith}
@@ -9,26 +9,20 @@ use Rattle.catalogue.specs.Table.{rows}
 use Rattle.versions.specs.Low.{low_bytes}
 use Rattle.versions.specs.Layout.{last_at}
 use Rattle.versions.specs.Keep.{fill_slots}
-use Rattle.versions.proofs.Slots.{filled_alone, filled_is, fill_length}
+use Rattle.versions.proofs.Bytewise.{put_within}
+use Rattle.versions.proofs.Slots.{filled_alone, filled_is}
 use Rattle.versions.proofs.keep.fill.Goals as goal
 
 pub returns-then-v-ne-SIZE : goal.returns-then-v-ne-SIZE
 unfolding last_at rows
 returns-then-v-ne-SIZE c = let a = c.args in filled_alone a.part.now a.v.now c.if-v-ne-SIZE.true
 
-pub take_rows-requires : goal.take_rows-requires
-unfolding last_at rows
-take_rows-requires c =
-    let a = c.args in
-    let l = c.loop-i in
-    (omega (arith, ap length l.invariant.1, fill_length a.part.now a.v.now l.i), omega arith)
-
 pub returns : goal.returns
 unfolding last_at rows
 returns c =
     let a = c.args in
-    let l = c.loop-i in
-    let e : l.i ≡ 16 = omega arith in
-    c.put_number.ensures
-    ∙ (ap (λ (x : List ℕ). put x last_at (low_bytes 2 0)) (l.invariant.1 ∙ ap (λ (k : ℕ). fill_slots k a.part.now a.v.now) e)
+    let l = c.loop-slot in
+    let e : l.slot ≡ 16 = omega arith in
+    put_within l.v c.put_number.new.bytes 640 (length l.v) _ 2 0 (omega arith) (omega arith) (omega arith) refl c.put_number.ensures
+    ∙ (ap (λ (x : List ℕ). put x last_at (low_bytes 2 0)) (l.invariant ∙ ap (λ (k : ℕ). fill_slots k a.part.now a.v.now) e)
     ∙ filled_is a.part.now a.v.now c.if-v-ne-SIZE.false)

@@ -5,21 +5,16 @@ use Rattle.catalogue.specs.Table.{rows}
 use Rattle.versions.specs.Layout.{columns, last_at}
 use Rattle.versions.specs.Keep.{give_columns}
 use Rattle.versions.proofs.Slots.{restored_alone, restored_is}
-use borrow.Author.Rules.{rules}
 use Rattle.versions.proofs.keep.restore.Goals as goal
 
-pub returns-then-v-ne-SIZE : goal.returns-then-v-ne-SIZE
+pub returns-else-v-eq-SIZE : goal.returns-else-v-eq-SIZE
 unfolding last_at rows
-returns-then-v-ne-SIZE c = let a = c.args in restored_alone a.part.now a.v.now c.if-v-ne-SIZE.true a.n
+returns-else-v-eq-SIZE c = let a = c.args in restored_alone a.part.now a.v.now c.if-v-eq-SIZE.false a.n
 
-pub give_rows-requires : goal.give_rows-requires
+pub returns-then-v-eq-SIZE : goal.returns-then-v-eq-SIZE
 unfolding last_at rows
-give_rows-requires c = search rules
-
-pub returns : goal.returns
-unfolding last_at rows
-returns c =
+returns-then-v-eq-SIZE c =
     let a = c.args in
     c.give_rows.ensures
     ∙ (ap (λ (k : ℕ). give_columns columns k a.v.now a.part.now) c.slot_of.ensures.0
-    ∙ restored_is a.part.now a.v.now c.if-v-ne-SIZE.false a.n)
+    ∙ restored_is a.part.now a.v.now c.if-v-eq-SIZE.true a.n)

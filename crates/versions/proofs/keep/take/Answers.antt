@@ -1,12 +1,14 @@
 -- The settings, and then the number.
-use mathlib.Core.Path.{◌∙◌, ap}
+use mathlib.Core.Path.{refl, ◌∙◌, ap}
 use mathlib.Core.List.{List}
 use Prim.Native.Nat.{ℕ, ◌+◌}
 use native.Mathlib.Omega.{arith}
+use lib.ListN.{length}
 use Rattle.codes.specs.Number.{put}
 use Rattle.catalogue.specs.Table.{rows}
 use Rattle.versions.specs.Low.{low_bytes}
 use Rattle.versions.specs.Layout.{last_at}
+use Rattle.versions.proofs.Bytewise.{put_within}
 use Rattle.versions.proofs.Slots.{taken_alone, taken_is}
 use Rattle.versions.proofs.keep.take.Goals as goal
 
@@ -14,15 +16,12 @@ pub returns-then-v-ne-SIZE : goal.returns-then-v-ne-SIZE
 unfolding last_at rows
 returns-then-v-ne-SIZE c = let a = c.args in taken_alone a.part.now a.v.now c.if-v-ne-SIZE.true
 
-pub take_rows-requires : goal.take_rows-requires
-unfolding last_at rows
-take_rows-requires c = (omega arith, omega arith)
-
 pub returns : goal.returns
 unfolding last_at rows
 returns c =
     let a = c.args in
     let last = c.last_used-last in
-    c.put_number.ensures
-    ∙ (ap (λ (l : List ℕ). put l last_at (low_bytes 2 (last.result + 1))) c.take_rows.ensures
-    ∙ taken_is a.part.now a.v.now c.if-v-ne-SIZE.false last.result last.ensures)
+    let v = c.take_rows.new.v in
+    put_within v c.put_number.new.bytes 640 (length v) _ 2 (c.from-2.result + 1) (omega arith) (omega arith) (omega arith) refl c.put_number.ensures
+    ∙ (ap (λ (l : List ℕ). put l last_at (low_bytes 2 (c.from-2.result + 1))) c.take_rows.ensures
+    ∙ rw (c.from.ensures, c.from-2.ensures) (taken_is a.part.now a.v.now c.if-v-ne-SIZE.false last.result last.ensures))

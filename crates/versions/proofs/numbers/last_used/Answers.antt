@@ -1,5 +1,5 @@
 -- The number stands after the columns.
-use mathlib.Core.Path.{◌∙◌}
+use native.Mathlib.Omega.{arith}
 use lib.ListN.{length}
 use borrow.Author.Tests.{eq-eqb, ne_eqb}
 use Rattle.catalogue.specs.Table.{rows}
@@ -12,4 +12,4 @@ returns-then-v-ne-SIZE c = let v = c.args.v.now in rw (ne_eqb (length v) version
 
 pub returns : goal.returns
 unfolding last_used last_at rows
-returns c = let v = c.args.v.now in c.word_at.ensures ∙ rw (eq-eqb (length v) version_bytes c.if-v-ne-SIZE.false)
+returns c = let v = c.args.v.now in rw (eq-eqb (length v) version_bytes c.if-v-ne-SIZE.false) (omega (arith, c.type_inv.v 640, c.type_inv.v 641))
