@@ -117,7 +117,7 @@ fn place_in(k: u32, size: usize) -> Result<Range<usize>, Refusal>
 // Makes a fresh station.
 pub fn fresh(station: &mut [u8]) -> Result<(), Refusal>
     ensures value { answered_number result ≡ fresh_number station.old }
-    ensures done { length station.old ≡ station_size → IsOk result }
+    ensures done { length station.old ≡ STATION → IsOk result }
     ensures station_after { station.new ≡ fresh_station station.old }
 {
     if station.len() != STATION {
