@@ -1,5 +1,6 @@
 -- What an address stored is there when the change is over, where no later one stored it again; an address is stored whole or not at all,
 -- exactly when it can be, and answered and counted so; what is read is there.
+use Rattle.access.specs.declared.error.ParameterError.{ParameterError}
 use Rattle.access.specs.declared.error.ParameterError.TheVariants.{ReadOnly, WrongType, WrongCount}
 use Rattle.std.specs.Prelude.{Result, Ok, Err}
 use mathlib.Core.Path.{◌≡◌, refl, sym, ap, subst, ◌∙◌}
@@ -79,7 +80,7 @@ module _ (a : Address) (b : Block) (g : BlockFits change_block_fits b) (p : List
       stores : (s : Storable a b) → Named a s.row s.number → There (success s.row a.subindex b.values p)
       stores s n e =
           let same : Ok (q, named.number) ≡ Ok (s.row, s.number) = sym named.passed ∙ s.passed in
-          let both : (q, named.number) ≡ (s.row, s.number) = ap (got_or (q, 0)) same in
+          let both : (q, named.number) ≡ (s.row, s.number) = ap (λ (x : Result (Row × ℕ) ParameterError). got_or (q, 0) x) same in
           let row : q ≡ s.row = ap (λ (x : Row × ℕ). x.0) both in
           let number : named.number ≡ s.number = ap (λ (x : Row × ℕ). x.1) both in
           let place : a.subindex + (j - a.subindex) ≡ j = omega (arith, named.low) in
