@@ -1,5 +1,6 @@
 -- The response that waits: a header over the first bytes of an array, and the blocks that stand after it; for a change, the refusal by 15
 -- and the version before it.
+use Rattle.std.proofs.lemmas.List.{drop-take}
 use Rattle.access.specs.declared.error.Refused.TheVariants.{UsedUp}
 use Rattle.std.specs.Prelude.{Ok, Err}
 use mathlib.Core.Path.{◌≡◌, refl, sym, ◌∙◌, ap, subst}
@@ -10,7 +11,7 @@ use Prim.Native.Nat.{ℕ, ◌+◌, ◌*◌, ◌-◌, ◌≤◌}
 use native.Mathlib.Omega.{arith}
 use lib.Dec.{eqb}
 use lib.ListN.{length, take, drop}
-use lib.Seq.{length-take-le, take_at, drop_at, take-append-add}
+use lib.Seq.{length-take-le, take_at, drop_at}
 use borrow.Author.Tests.{eq-eqb, ne_eqb}
 use Rattle.codes.specs.Code.{readable, write_all}
 use Rattle.codes.specs.Number.{put}
@@ -37,11 +38,12 @@ use Rattle.access.proofs.Apart.{none_stored, told, Lent, did_told}
 use Rattle.access.proofs.Requested.{header_is, count_few, walk_is, walk_whole, blocks_are}
 
 -- the first n bytes, under a header
-pub header_over : (l : List ℕ) (h : Header) (n : ℕ) → 4 ≤ n → 4 ≤ length l → take n (put l 0 (header_bytes h)) ≡ header_bytes h ++ take (n - 4) (drop 4 l)
-header_over l h n k s =
-    let z : n ≡ 4 + (n - 4) = omega arith in
-    ap (take n) (put_fits l 0 (header_bytes h) s)
-    ∙ (ap (λ (m : ℕ). take m (header_bytes h ++ drop 4 l)) z ∙ take-append-add (header_bytes h) (drop 4 l) (n - 4))
+pub header_over : (l : List ℕ) (h : Header) → 4 ≤ length l → put l 0 (header_bytes h) ≡ header_bytes h ++ drop 4 l
+header_over l h s = put_fits l 0 (header_bytes h) s
+
+-- the first n bytes past the header
+pub past_header : (l : List ℕ) (n : ℕ) → 4 ≤ n → drop 4 (take n l) ≡ take (n - 4) (drop 4 l)
+past_header l n k = let z : n ≡ 4 + (n - 4) = omega arith in ap (λ (m : ℕ). drop 4 (take m l)) z ∙ drop-take 4 (n - 4) l
 
 -- what was put after it
 put_back : (l bs : List ℕ) (at n : ℕ) → at + length bs ≤ length l → n ≡ at + length bs → take (n - at) (drop at (put l at bs)) ≡ bs

@@ -27,7 +27,8 @@ pub struct Values {
     pub count: u16,
 }
 
-// What all addresses came to: where their blocks end, whether one is an error, and how many elements were stored.
+// What all addresses came to: where their blocks end, whether one is an error, and how many elements were stored. Each is told in every
+// case: beside an error the other addresses may have been stored.
 #[derive(Clone, Copy)]
 pub struct Changes {
     pub next: usize,
@@ -238,9 +239,9 @@ pub(crate) fn answer(part: &mut [u8], block: &[u8], h: Header) -> Result<u16, Re
         versions::take_within(part, part::VERSIONS);
     }
     if d.error {
-        reply::respond(part, h, 0x82, body, d.next);
+        reply::respond(part, h, 0x82, &mut body[..d.next]);
     } else {
-        reply::respond(part, h, 0x02, body, FIRST);
+        reply::respond(part, h, 0x02, &mut body[..FIRST]);
     }
     Ok(d.stored)
 }

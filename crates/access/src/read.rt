@@ -21,7 +21,8 @@ use catalogue::Row;
 // No parameter has more elements than the fault buffer.
 const MOST: usize = drive::faults::BUFFER;
 
-// Puts n elements of a row, from element i on, at the start of `values`.
+// Puts n elements of a row, from element i on, at the start of `values`. The index counts both, so that an iterator over one of them is no
+// plainer.
 fn gather(part: &[u8], r: Row, i: u16, n: u16, values: &mut [u32; MOST])
     requires { (i + n ≤ buffer_codes) × (length values.old ≡ buffer_codes) }
     ensures { (length values.new ≡ buffer_codes) × (take n values.new ≡ elements_from r i n part.now) }
@@ -123,5 +124,5 @@ pub(crate) fn answer(part: &mut [u8], block: &[u8], h: Header)
     let mut body = [0u8; blocks::BLOCK_LIMIT];
     let w = read_all(part, block, h.count as usize, &mut body);
     let identifier = if w.error { 0x81 } else { 0x01 };
-    reply::respond(part, h, identifier, body, w.next);
+    reply::respond(part, h, identifier, &mut body[..w.next]);
 }

@@ -1,5 +1,5 @@
 // The response, written part by part.
-ghost use Rattle.std.specs.Prelude.{◌≡◌, ◌++◌, ◌-◌, ◌≤◌, take, drop};
+ghost use Rattle.std.specs.Prelude.{◌≡◌, ◌++◌, ◌≤◌, length, drop};
 ghost use Rattle.blocks.specs.Block.{block_limit};
 ghost use Rattle.blocks.specs.Place.{header_bytes};
 ghost use Rattle.part.specs.Layout.{with_response};
@@ -9,7 +9,7 @@ ghost use Rattle.access.specs.Walk.{Wrote};
 use super::ParameterError;
 use blocks::Header;
 
-// Where the next block goes, and whether an error was written.
+// Where the next block goes, and whether an error was written: both hold in every case, so that neither is an Option's.
 #[derive(Clone, Copy)]
 pub struct Written {
     pub next: usize,
@@ -28,18 +28,11 @@ pub(crate) fn put_failed(out: &mut [u8], at: usize, error: ParameterError) -> Wr
     }
 }
 
-// The response that waits: the request's header with another identifier, and what stands after it in the first n bytes of `body`.
-pub(crate) fn respond(part: &mut [u8], h: Header, id: u8, body: [u8; blocks::BLOCK_LIMIT], n: usize)
-    requires { (4 ≤ n) × (n ≤ block_limit) }
-    ensures { part.new ≡ with_response (header_bytes (record { reference = h.reference; identifier = id; axis = h.axis; count = h.count }) ++ take (n - 4) (drop 4 body)) part.old }
+// The response that waits: the request's header with another identifier, and what stands after it in `reply`.
+pub(crate) fn respond(part: &mut [u8], h: Header, identifier: u8, reply: &mut [u8])
+    requires { (4 ≤ length reply.old) × (length reply.old ≤ block_limit) }
+    ensures { part.new ≡ with_response (header_bytes (record { reference = h.reference; identifier = identifier; axis = h.axis; count = h.count }) ++ drop 4 reply.old) part.old }
 {
-    let mut out = body;
-    blocks::writer::put_header(
-        &mut out,
-        Header {
-            identifier: id,
-            ..h
-        },
-    );
-    part::put_response(part, &out[..n]);
+    blocks::writer::put_header(reply, Header { identifier, ..h });
+    part::put_response(part, reply);
 }

@@ -3,7 +3,7 @@ ghost use Rattle.std.specs.Prelude.{◌≡◌, false, ◌&&◌, ◌*◌, ◌≤�
 ghost use Rattle.blocks.specs.Block.{format_size, value_size, code_size, value_fits, error_fits, empty_fits, response_block_fits, fill_size};
 ghost use Rattle.blocks.specs.Response.{is_answer};
 
-// Bytes of one value of a data type; 0 where f is none.
+// Bytes of one value of a data type; 0 where f is none, here and below, as the document says sizes ("its size is 0") and the public two promise.
 #[tactic(auto, unfolding(crate::specs::Block::format_size))]
 fn type_size(f: u8) -> usize
     requires { (leb 0x41 f && leb f 0x43) ≡ false }

@@ -39,7 +39,7 @@ pub struct Head {
     pub next: usize,
 }
 
-// Where a walk over blocks stands, and whether it met an error block.
+// Where a walk over blocks stands, and whether it met an error block: a walk goes on after one.
 #[derive(Clone, Copy)]
 struct Reached {
     at: usize,

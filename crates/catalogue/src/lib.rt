@@ -317,7 +317,8 @@ pub fn find(pnu: u16) -> Option<Row>
     }
 }
 
-// Bytes of an element.
+// Bytes of an element. This and the next two are three tables, each promised by its own definition: one table of all would be taken apart at
+// each use.
 pub fn element_size(k: Kind) -> usize
     ensures { result ≡ element_size k }
 {
@@ -351,7 +352,7 @@ pub fn type_code(k: Kind) -> u8
     }
 }
 
-// The value that an element's bytes stand for.
+// The value that an element's bytes stand for. Cut to its bytes by `%` and widened by `as`: by From it would name two more types.
 pub fn value_of(k: Kind, x: u32) -> i32
     ensures { result ≡ value_of k x }
 {

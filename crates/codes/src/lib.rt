@@ -24,7 +24,8 @@ fn number_of(bytes: &[u8]) -> u32
     x
 }
 
-// The number in the w bytes at `at`; 0 where they do not all stand in the slice, or are more than four.
+// The number in the w bytes at `at`; 0 where they do not all stand in the slice, or are more than four: as `number_at` of specs/ promises, which
+// the tables, addresses and records above are read by. The two after it differ in what they answer, a line each.
 pub fn number_at(s: &[u8], at: usize, w: usize) -> u32
     ensures { result ≡ number_at w s.now at }
 {

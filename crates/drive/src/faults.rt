@@ -15,6 +15,7 @@ pub const CODES: usize = 8;
 // How many codes the buffer holds.
 pub const BUFFER: usize = SITUATIONS * CODES;
 
+// The buffer is one list and not four of eight: so PNU 947 counts its elements, and KeepsProper and KeepsLength speak of that list.
 #[derive(Clone, Copy)]
 pub struct Faults {
     pub counter: u16, // PNU 944

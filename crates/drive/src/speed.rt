@@ -12,7 +12,7 @@ pub struct Rpm(pub i32);
 
 const FULL: i32 = 16384;
 
-// A number without its sign.
+// A number without its sign. No crate calls it any more; it stays as public and promises what it did.
 pub fn size(z: i32) -> u32
     ensures { result ≡ nat_abs z }
 {

@@ -54,7 +54,7 @@ fn put_speed(text: &mut Text, rpm: i32)
     text.put_signed(rpm);
 }
 
-// What a cycle answered, by `c`, or by `x` where it was refused.
+// What a cycle answered, by `c`, or by `x` where it was refused: by the number that the C interface hands on, here and below.
 pub(crate) fn put_cycle(text: &mut Text, axis: u8, c: Cycled)
     requires { room 42 text.old }
     ensures { Wrote 42 (cycle_line axis c ++ (0x0A ∷ [])) text.old text.new }

@@ -3,7 +3,7 @@ ghost use Rattle.std.specs.Prelude.{◌≡◌, ◌≤◌, [], length, take};
 ghost use Rattle.blocks.specs.Block.{block_limit};
 ghost use Rattle.part.specs.Layout.{versions_at, waiting_length, waiting, with_response};
 
-// How many bytes of a response wait; 0: none waits.
+// How many bytes of a response wait; 0: none waits. It is the length byte of the documents, and promised so.
 pub fn waiting_length(part: &[u8]) -> u8
     ensures { result ≡ waiting_length part.now }
 {

@@ -6,7 +6,7 @@ ghost use Rattle.season.specs.Season.{answer_counts, plus, reaches, added};
 use super::{EACH, Stop};
 use station::{CycleDone, FARMS, Framed, Returned};
 
-// What a cycle counts.
+// What a cycle counts. State and number are numbers in what the C interface hands on, here and below.
 pub(crate) fn of_cycle(c: CycleDone) -> [u64; EACH]
     ensures { result ≡ answer_counts (to_cycle c) }
 {

@@ -12,7 +12,7 @@ pub struct Kept {
     pub count: u16,
 }
 
-// The last number used; 0 where none is, or in a slice of another size.
+// The last number used; 0 where none is, or in a slice of another size: the promise is `last_used`, from which the next number is one more.
 pub fn last_used(v: &[u8]) -> u16
     ensures { result ≡ last_used v.now }
 {

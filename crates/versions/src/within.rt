@@ -1,5 +1,5 @@
 // Versions that stand in the part itself, from `at` to its end. The promises hold for every `at`, also for one inside the elements, so the
-// two are not lent side by side: what is read is copied first.
+// two are not lent side by side: what is read is copied first. Of these three each is its own definition, and what they share has a name.
 ghost use Rattle.std.specs.Prelude.{◌≡◌, ◌+◌, ◌≤◌, eqb, length, take};
 ghost use Rattle.catalogue.specs.Table.{parameter_bytes};
 ghost use Rattle.versions.specs.Layout.{version_bytes};

@@ -1,9 +1,8 @@
--- The header over the first four bytes, then the first n bytes wait: they are no more than a block.
+-- The header over the first four bytes, and all of it waits: it is no more than a block.
 use mathlib.Core.Path.{◌∙◌, ap}
 use mathlib.Core.List.{List}
 use Prim.Native.Nat.{ℕ}
 use native.Mathlib.Omega.{arith}
-use lib.ListN.{take, length-take}
 use lib.Seq.{take_all}
 use Rattle.blocks.specs.Block.{block_limit}
 use Rattle.part.specs.Layout.{with_response}
@@ -15,6 +14,6 @@ returns c =
     let a = c.args in
     let out = c.put_header.new.out in
     c.put_response.ensures
-    ∙ (ap (λ (l : List ℕ). with_response l a.part.now) (take_all block_limit (take a.n out) (omega (arith, length-take a.n out)))
-    ∙ (ap (λ (l : List ℕ). with_response (take a.n l) a.part.now) c.put_header.ensures
-    ∙ ap (λ (l : List ℕ). with_response l a.part.now) (header_over a.body (record { reference = a.h.reference; identifier = a.id; axis = a.h.axis; count = a.h.count }) a.n (omega arith) (omega arith))))
+    ∙ (ap (λ (l : List ℕ). with_response l a.part.now) (take_all block_limit out (omega (arith, c.put_header.auto.out)))
+    ∙ ap (λ (l : List ℕ). with_response l a.part.now)
+    (c.put_header.ensures ∙ header_over a.reply.now (record { reference = a.h.reference; identifier = a.identifier; axis = a.h.axis; count = a.h.count }) (omega arith)))
