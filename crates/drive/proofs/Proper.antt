@@ -1,6 +1,6 @@
 -- What a cycle keeps of the fault buffer: its length, and that it is proper. Assumes nothing.
+use Rattle.std.proofs.lemmas.List.{drop-take}
 use Prim.Native.Nat.{ℕ, zero, suc, ◌+◌, ◌-◌, ◌*◌, ◌≤◌}
-use native.Mathlib.Nat.{zero-add, suc-add}
 use native.Mathlib.Omega.{arith}
 use mathlib.Core.Path.{◌≡◌, refl, sym, ap, ◌∙◌}
 use mathlib.Core.Bool.{Bool, true, false, not, and-eq-true_iff}
@@ -8,7 +8,7 @@ use mathlib.Core.List.{List, [], ◌∷◌}
 use mathlib.Mathlib.Data.Bool.Basic.{or-eq-false-eq-eq-false-and-eq-false as or-eq-false-iff}
 use lib.Dec.{eqb}
 use lib.ListN.{length, take, drop, set, length-set, length-take}
-use lib.Seq.{take-nil, take-take, take-set-lt, drop-set-lt, length-take-le}
+use lib.Seq.{take-take, take-set-lt, drop-set-lt, length-take-le}
 use borrow.Author.Tests.{ltb-true, ltb-false, eqb-false, ne_eqb, not-true}
 use borrow.Table.Steps.{cases}
 use Rattle.drive.specs.declared.faults.Faults.{Faults}
@@ -81,19 +81,13 @@ put_proper x (y ∷ ys) nz h p =
     let no : is_in y (set ys (first_in 0 ys) x) ≡ false = set_absent y x (first_in 0 ys) ys (not-true (is_in y ys) both.0) other in
     rw (e, e, no) (put_proper x ys nz neither.1 both.1))
 
--- what is left of the first ones
-pub drop_take : (k m : ℕ) (l : List ℕ) → drop k (take (k + m) l) ≡ take m (drop k l)
-drop_take zero m l = ap (λ (n : ℕ). take n l) (zero-add m)
-drop_take (suc k) m [] = ap (drop (suc k)) (take-nil (suc k + m)) ∙ sym (take-nil m)
-drop_take (suc k) m (x ∷ xs) = ap (λ (n : ℕ). drop (suc k) (take n (x ∷ xs))) (suc-add k m) ∙ drop_take k m xs
-
 -- the first n of n + 1 situations
 firsts : (n : ℕ) (b : List ℕ) → all_proper (suc n) b ≡ true → all_proper n (take (situation_codes * n) b) ≡ true
 firsts zero b p = refl
 firsts (suc n) b p =
     let e : situation_codes * suc n ≡ situation_codes + situation_codes * n = omega arith in
     let both = (and-eq-true_iff (proper (take situation_codes b)) (all_proper (suc n) (drop situation_codes b))).0 p in
-    rw (ap (λ (k : ℕ). take k b) e, take-take situation_codes (situation_codes + situation_codes * n) b (omega arith), drop_take situation_codes (situation_codes * n) b)
+    rw (ap (λ (k : ℕ). take k b) e, take-take situation_codes (situation_codes + situation_codes * n) b (omega arith), drop-take situation_codes (situation_codes * n) b)
     ((and-eq-true_iff (proper (take situation_codes b)) (all_proper n (take (situation_codes * n) (drop situation_codes b)))).1 (both.0, firsts n (drop situation_codes b) both.1))
 
 put_all_proper : (x : ℕ) (f : Faults) → eqb x 0 ≡ false → holds x f ≡ false → has_room f ≡ true → proper_faults f ≡ true

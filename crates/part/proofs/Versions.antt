@@ -14,7 +14,7 @@ use Rattle.codes.specs.Number.{number_at, value_or, signed_of}
 use Rattle.codes.proofs.Number.{number_within, numbers_same}
 use Rattle.blocks.specs.Block.{block_limit}
 use Rattle.drive.specs.Faults.{buffer_codes, proper_faults}
-use Rattle.drive.proofs.Proper.{drop_take}
+use Rattle.std.proofs.lemmas.List.{drop-take}
 use Rattle.catalogue.specs.declared.Row.{Row}
 use Rattle.catalogue.specs.Table.{rows, row_at, element_size, find_of, offset_of, parameter_bytes}
 use Rattle.catalogue.specs.Element.{element_place, element_of, fresh_of, every_row}
@@ -71,7 +71,7 @@ module _ (p q : List ℕ) (front : take versions_at q ≡ take versions_at p) wh
   front_waiting_length = front_number 1 length_at (le-leb (length_at + 1) versions_at (omega arith))
 
   front_room : response_room q ≡ response_room p
-  front_room = sym (drop_take response_at block_limit q) ∙ (ap (drop response_at) front ∙ drop_take response_at block_limit p)
+  front_room = sym (drop-take response_at block_limit q) ∙ (ap (drop response_at) front ∙ drop-take response_at block_limit p)
 
   pub front_waiting : waiting q ≡ waiting p
   front_waiting = rw (front_waiting_length, front_room)
@@ -79,9 +79,9 @@ module _ (p q : List ℕ) (front : take versions_at q ≡ take versions_at p) wh
   pub front_middle : middle q ≡ middle p
   front_middle =
       let e : versions_at ≡ parameter_bytes + (versions_at - parameter_bytes) = omega arith in
-      sym (drop_take parameter_bytes (versions_at - parameter_bytes) q)
+      sym (drop-take parameter_bytes (versions_at - parameter_bytes) q)
       ∙ (ap (drop parameter_bytes) (ap (λ (n : ℕ). take n q) (sym e) ∙ (front ∙ ap (λ (n : ℕ). take n p) e))
-      ∙ drop_take parameter_bytes (versions_at - parameter_bytes) p)
+      ∙ drop-take parameter_bytes (versions_at - parameter_bytes) p)
 
   pub front_settings : settings_of q ≡ settings_of p
   front_settings = settings_alike q p front_element
