@@ -79,7 +79,7 @@ module _ (a : Address) (b : Block) (g : BlockFits change_block_fits b) (p : List
     where
       stores : (s : Storable a b) → Named a s.row s.number → There (success s.row a.subindex b.values p)
       stores s n e =
-          let same : Ok (q, named.number) ≡ Ok (s.row, s.number) = sym named.passed ∙ s.passed in
+          let same : ◌≡◌ {A = Result (Row × ℕ) ParameterError} (Ok (q, named.number)) (Ok (s.row, s.number)) = sym named.passed ∙ s.passed in
           let both : (q, named.number) ≡ (s.row, s.number) = ap (λ (x : Result (Row × ℕ) ParameterError). got_or (q, 0) x) same in
           let row : q ≡ s.row = ap (λ (x : Row × ℕ). x.0) both in
           let number : named.number ≡ s.number = ap (λ (x : Row × ℕ). x.1) both in

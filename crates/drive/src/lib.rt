@@ -3,7 +3,7 @@
 
 ghost use Rattle.std.specs.Prelude.{◌≡◌, cond};
 ghost use Rattle.drive.specs.Cycle.{word_of, effective_of, cycle_of, fresh_drive};
-ghost use Rattle.drive.specs.Motion.{moved_of, quiet_of};
+ghost use Rattle.drive.specs.Motion.{motion_of, with_faults, moved_of, quiet_of};
 
 pub mod faults; // faults.rt: steps 2 and 3, the fault buffer
 pub mod speed; // speed.rt: normalised figures and revolutions
@@ -85,6 +85,23 @@ pub fn fresh() -> Drive
             actual: N2(0),
         },
         faults: Faults::none(),
+    }
+}
+
+// What a drive record holds beside its faults, and the whole of it with faults. Each is a field or a struct's text, and so no call of the
+// project's own; they stay, as their promises were named in the pages.
+pub fn motion_of(d: Drive) -> Motion
+    ensures { result ≡ motion_of d }
+{
+    d.motion
+}
+
+pub fn with_faults(m: Motion, f: Faults) -> Drive
+    ensures { result ≡ with_faults m f }
+{
+    Drive {
+        motion: m,
+        faults: f,
     }
 }
 
