@@ -5,6 +5,7 @@ mod keep; // keep.rt: settings into a slot and back
 mod limits; // limits.rt: whether they lie inside the limits
 mod low; // low.rt: numbers low byte first
 mod numbers; // numbers.rt: which numbers are kept
+mod slot; // slot.rt: which of the slots
 mod within; // within.rt: versions that stand in the part itself
 
 use catalogue::Row;

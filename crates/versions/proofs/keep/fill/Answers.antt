@@ -21,8 +21,8 @@ pub returns : goal.returns
 unfolding last_at rows
 returns c =
     let a = c.args in
-    let l = c.loop-slot in
-    let e : l.slot ≡ 16 = omega arith in
+    let l = c.loop-at in
+    let e : l.at ≡ 16 = omega arith in
     put_within l.v c.put_number.new.bytes 640 (length l.v) _ 2 0 (omega arith) (omega arith) (omega arith) refl c.put_number.ensures
     ∙ (ap (λ (x : List ℕ). put x last_at (low_bytes 2 0)) (l.invariant ∙ ap (λ (k : ℕ). fill_slots k a.part.now a.v.now) e)
     ∙ filled_is a.part.now a.v.now c.if-v-ne-SIZE.false)

@@ -16,5 +16,5 @@ unfolding last_at rows
 returns-then-v-eq-SIZE c =
     let a = c.args in
     c.give_rows.ensures
-    ∙ (ap (λ (k : ℕ). give_columns columns k a.v.now a.part.now) c.slot_of.ensures.0
+    ∙ (ap (λ (k : ℕ). give_columns columns k a.v.now a.part.now) c.slot_of.ensures
     ∙ restored_is a.part.now a.v.now c.if-v-eq-SIZE.true a.n)
