@@ -1,24 +1,24 @@
 // A part's settings into a slot, and a slot's into the part's elements.
-ghost use Rattle.std.specs.Prelude.{◌≡◌, ◌+◌, ◌≤◌, ◌<◌, length};
+ghost use Rattle.std.specs.Prelude.{◌≡◌, ◌+◌, ◌≤◌, ◌<◌};
 ghost use Rattle.catalogue.specs.Table.{element_size};
 ghost use Rattle.versions.specs.Layout.{columns, columns_of, place_in, slot_of};
 ghost use Rattle.versions.specs.Keep.{take_elements, take_columns, taken, give_elements, give_columns, restored, filled};
 
 use super::slot::Slot;
-use super::{Columns, SIZE};
+use super::{Columns, SIZE, Versions};
 
 impl Columns {
     // Where element e of a slot stands.
     fn place_of(self, e: u16, slot: Slot) -> usize
-        requires { (e < self.row.count) × (self.at + columns_of self.row < 65536) }
+        requires { (e < self.row.count) × (self.at + columns_of self.row ≤ SIZE) }
         ensures { (result ≡ place_in self e slot.at) × (result + element_size self.row.kind ≤ self.at + columns_of self.row) }
     {
         self.at + (usize::from(e) * super::SLOTS + slot.at) * catalogue::element_size(self.row.kind)
     }
 
     // The elements of the row into a slot.
-    fn take(self, v: &mut [u8], part: &[u8], slot: Slot)
-        requires { (self.at + columns_of self.row ≤ length v.old) × (length v.old < 65536) }
+    fn take(self, v: &mut Versions, part: &[u8], slot: Slot)
+        requires { self.at + columns_of self.row ≤ SIZE }
         ensures { v.new ≡ take_elements self slot.at part.now self.row.count v.old }
     {
         let size = catalogue::element_size(self.row.kind);
@@ -29,8 +29,8 @@ impl Columns {
     }
 
     // A slot's numbers into the elements of the row.
-    fn give(self, part: &mut [u8], v: &[u8], slot: Slot)
-        requires { (self.at + columns_of self.row ≤ length v.now) × (length v.now < 65536) }
+    fn give(self, part: &mut [u8], v: &Versions, slot: Slot)
+        requires { self.at + columns_of self.row ≤ SIZE }
         ensures { part.new ≡ give_elements self slot.at v.now self.row.count part.old }
     {
         let size = catalogue::element_size(self.row.kind);
@@ -43,8 +43,7 @@ impl Columns {
 
 // Each row by its name, since then the compiler knows what stands where: by a loop over them a change takes some 1,250 instructions more,
 // and a going back three times as many.
-fn take_rows(v: &mut [u8], part: &[u8], slot: Slot)
-    requires { length v.old ≡ SIZE }
+fn take_rows(v: &mut Versions, part: &[u8], slot: Slot)
     ensures { v.new ≡ take_columns columns slot.at part.now v.old }
 {
     super::COLUMNS_9900.take(v, part, slot);
@@ -57,8 +56,7 @@ fn take_rows(v: &mut [u8], part: &[u8], slot: Slot)
 }
 
 // Each by its name here too.
-fn give_rows(part: &mut [u8], v: &[u8], slot: Slot)
-    requires { length v.now ≡ SIZE }
+fn give_rows(part: &mut [u8], v: &Versions, slot: Slot)
     ensures { part.new ≡ give_columns columns slot.at v.now part.old }
 {
     super::COLUMNS_9900.give(part, v, slot);
@@ -75,9 +73,9 @@ fn give_rows(part: &mut [u8], v: &[u8], slot: Slot)
 pub(crate) fn take(v: &mut [u8], part: &[u8])
     ensures { v.new ≡ taken part.now v.old }
 {
-    if v.len() != SIZE {
+    let Some(v) = v.as_mut_array::<SIZE>() else {
         return;
-    }
+    };
     let last = super::last_used(v);
     let slot = Slot {
         at: usize::from(last) % super::SLOTS,
@@ -99,7 +97,7 @@ fn slot_of(n: u16) -> Slot
 pub(crate) fn restore(v: &[u8], part: &mut [u8], n: u16)
     ensures { part.new ≡ restored v.now n part.old }
 {
-    if v.len() == SIZE {
+    if let Some(v) = v.as_array::<SIZE>() {
         give_rows(part, v, slot_of(n));
     }
 }
@@ -108,9 +106,9 @@ pub(crate) fn restore(v: &[u8], part: &mut [u8], n: u16)
 pub(crate) fn fill(v: &mut [u8], part: &[u8])
     ensures { v.new ≡ filled part.now v.old }
 {
-    if v.len() != SIZE {
+    let Some(v) = v.as_mut_array::<SIZE>() else {
         return;
-    }
+    };
     for at in 0..super::SLOTS {
         take_rows(v, part, Slot { at });
     }
