@@ -35,6 +35,7 @@ const AT_30004: usize = AT_30003 + SLOTS * 2;
 const LAST: usize = AT_30004 + SLOTS * 4 * 2;
 
 // A row of settings, and where its columns stand.
+// That they end inside the versions is asked by each method, not kept here: `columns_from` builds such rows at any place.
 #[derive(Clone, Copy)]
 struct Columns {
     row: Row,
