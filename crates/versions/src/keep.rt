@@ -1,24 +1,25 @@
 // A part's settings into a slot, and a slot's into the part's elements.
-ghost use Rattle.std.specs.Prelude.{◌≡◌, ◌+◌, ◌≤◌, ◌<◌, length};
+ghost use Rattle.std.specs.Prelude.{◌≡◌, ◌+◌, ◌≤◌, ◌<◌};
 ghost use Rattle.catalogue.specs.Table.{element_size};
-ghost use Rattle.versions.specs.Layout.{columns, columns_of, place_in, slot_of, slots};
+ghost use Rattle.versions.specs.Layout.{columns, columns_of, place_in, slot_of};
 ghost use Rattle.versions.specs.Keep.{take_elements, take_columns, taken, give_elements, give_columns, restored, filled};
 
-use super::{Columns, SIZE};
+use super::slot::Slot;
+use super::{Columns, SIZE, Versions};
 
 impl Columns {
     // Where element e of a slot stands.
-    fn place_of(self, e: u16, slot: usize) -> usize
-        requires { (e < self.row.count) × (slot < slots) × (self.at + columns_of self.row < 65536) }
-        ensures { (result ≡ place_in self e slot) × (result + element_size self.row.kind ≤ self.at + columns_of self.row) }
+    fn place_of(self, e: u16, slot: Slot) -> usize
+        requires { (e < self.row.count) × (self.at + columns_of self.row ≤ SIZE) }
+        ensures { (result ≡ place_in self e slot.at) × (result + element_size self.row.kind ≤ self.at + columns_of self.row) }
     {
-        self.at + (usize::from(e) * super::SLOTS + slot) * catalogue::element_size(self.row.kind)
+        self.at + (usize::from(e) * super::SLOTS + slot.at) * catalogue::element_size(self.row.kind)
     }
 
     // The elements of the row into a slot.
-    fn take(self, v: &mut [u8], part: &[u8], slot: usize)
-        requires { (self.at + columns_of self.row ≤ length v.old) × (length v.old < 65536) × (slot < slots) }
-        ensures { v.new ≡ take_elements self slot part.now self.row.count v.old }
+    fn take(self, v: &mut Versions, part: &[u8], slot: Slot)
+        requires { self.at + columns_of self.row ≤ SIZE }
+        ensures { v.new ≡ take_elements self slot.at part.now self.row.count v.old }
     {
         let size = catalogue::element_size(self.row.kind);
         for e in 0..self.row.count {
@@ -28,9 +29,9 @@ impl Columns {
     }
 
     // A slot's numbers into the elements of the row.
-    fn give(self, part: &mut [u8], v: &[u8], slot: usize)
-        requires { (self.at + columns_of self.row ≤ length v.now) × (length v.now < 65536) × (slot < slots) }
-        ensures { part.new ≡ give_elements self slot v.now self.row.count part.old }
+    fn give(self, part: &mut [u8], v: &Versions, slot: Slot)
+        requires { self.at + columns_of self.row ≤ SIZE }
+        ensures { part.new ≡ give_elements self slot.at v.now self.row.count part.old }
     {
         let size = catalogue::element_size(self.row.kind);
         for e in 0..self.row.count {
@@ -42,9 +43,8 @@ impl Columns {
 
 // Each row by its name, since then the compiler knows what stands where: by a loop over them a change takes some 1,250 instructions more,
 // and a going back three times as many.
-fn take_rows(v: &mut [u8], part: &[u8], slot: usize)
-    requires { (length v.old ≡ SIZE) × (slot < slots) }
-    ensures { v.new ≡ take_columns columns slot part.now v.old }
+fn take_rows(v: &mut Versions, part: &[u8], slot: Slot)
+    ensures { v.new ≡ take_columns columns slot.at part.now v.old }
 {
     super::COLUMNS_9900.take(v, part, slot);
     super::COLUMNS_9901.take(v, part, slot);
@@ -56,9 +56,8 @@ fn take_rows(v: &mut [u8], part: &[u8], slot: usize)
 }
 
 // Each by its name here too.
-fn give_rows(part: &mut [u8], v: &[u8], slot: usize)
-    requires { (length v.now ≡ SIZE) × (slot < slots) }
-    ensures { part.new ≡ give_columns columns slot v.now part.old }
+fn give_rows(part: &mut [u8], v: &Versions, slot: Slot)
+    ensures { part.new ≡ give_columns columns slot.at v.now part.old }
 {
     super::COLUMNS_9900.give(part, v, slot);
     super::COLUMNS_9901.give(part, v, slot);
@@ -74,26 +73,31 @@ fn give_rows(part: &mut [u8], v: &[u8], slot: usize)
 pub(crate) fn take(v: &mut [u8], part: &[u8])
     ensures { v.new ≡ taken part.now v.old }
 {
-    if v.len() != SIZE {
+    let Some(v) = v.as_mut_array::<SIZE>() else {
         return;
-    }
+    };
     let last = super::last_used(v);
-    take_rows(v, part, usize::from(last) % super::SLOTS);
+    let slot = Slot {
+        at: usize::from(last) % super::SLOTS,
+    };
+    take_rows(v, part, slot);
     super::low::put_number(&mut v[super::LAST..], u32::from(last) + 1);
 }
 
 // The slot of version n.
-fn slot_of(n: u16) -> usize
-    ensures { (result ≡ slot_of n) × (result < slots) }
+fn slot_of(n: u16) -> Slot
+    ensures { result.at ≡ slot_of n }
 {
-    usize::from(n.saturating_sub(1)) % super::SLOTS
+    Slot {
+        at: usize::from(n.saturating_sub(1)) % super::SLOTS,
+    }
 }
 
 // The part's settings become those of version n, which is kept; where v has another size, nothing changes.
 pub(crate) fn restore(v: &[u8], part: &mut [u8], n: u16)
     ensures { part.new ≡ restored v.now n part.old }
 {
-    if v.len() == SIZE {
+    if let Some(v) = v.as_array::<SIZE>() {
         give_rows(part, v, slot_of(n));
     }
 }
@@ -102,11 +106,11 @@ pub(crate) fn restore(v: &[u8], part: &mut [u8], n: u16)
 pub(crate) fn fill(v: &mut [u8], part: &[u8])
     ensures { v.new ≡ filled part.now v.old }
 {
-    if v.len() != SIZE {
+    let Some(v) = v.as_mut_array::<SIZE>() else {
         return;
-    }
-    for slot in 0..super::SLOTS {
-        take_rows(v, part, slot);
+    };
+    for at in 0..super::SLOTS {
+        take_rows(v, part, Slot { at });
     }
     super::low::put_number(&mut v[super::LAST..], 0);
 }

@@ -5,6 +5,7 @@ mod keep; // keep.rt: settings into a slot and back
 mod limits; // limits.rt: whether they lie inside the limits
 mod low; // low.rt: numbers low byte first
 mod numbers; // numbers.rt: which numbers are kept
+mod slot; // slot.rt: a slot by its number
 mod within; // within.rt: versions that stand in the part itself
 
 use catalogue::Row;
@@ -34,6 +35,7 @@ const AT_30004: usize = AT_30003 + SLOTS * 2;
 const LAST: usize = AT_30004 + SLOTS * 4 * 2;
 
 // A row of settings, and where its columns stand.
+// That they end inside the versions is asked by each method, not kept here: `columns_from` builds such rows at any place.
 #[derive(Clone, Copy)]
 struct Columns {
     row: Row,
@@ -88,6 +90,9 @@ const COLUMNS: [Columns; 7] = [
 
 // Bytes of a farm's versions.
 pub const SIZE: usize = LAST + 2;
+
+// Memory of the size of a farm's versions.
+type Versions = [u8; SIZE];
 
 // How many settings there are.
 pub const SETTINGS: u16 = catalogue::ROW_9900.count

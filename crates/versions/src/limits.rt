@@ -1,15 +1,15 @@
 // Whether every setting of every slot lies inside its row's limits. This stands in every call, so a row's columns are one run of numbers,
 // and one loop that looks at them all and tests once: no early exit, so that many are compared at a time.
-ghost use Rattle.std.specs.Prelude.{◌≡◌, ◌+◌, ◌≤◌, ◌<◌, length};
+ghost use Rattle.std.specs.Prelude.{◌≡◌, ◌+◌, ◌≤◌};
 ghost use Rattle.versions.specs.Layout.{columns_of};
 ghost use Rattle.versions.specs.Fit.{columns_fit, versions_fit};
 
-use super::Columns;
+use super::{Columns, SIZE, Versions};
 
 impl Columns {
     // Whether every number of the row lies inside its limits.
-    fn fit(self, v: &[u8]) -> bool
-        requires { (self.at + columns_of self.row ≤ length v.now) × (length v.now < 65536) }
+    fn fit(self, v: &Versions) -> bool
+        requires { self.at + columns_of self.row ≤ SIZE }
         ensures { result ≡ columns_fit v.now self }
     {
         let size = catalogue::element_size(self.row.kind);
@@ -26,11 +26,11 @@ impl Columns {
 pub fn fit(s: &[u8]) -> bool
     ensures { result ≡ versions_fit s.now }
 {
-    if s.len() != super::SIZE {
+    let Some(v) = s.as_array::<SIZE>() else {
         return false;
-    }
+    };
     for c in super::COLUMNS {
-        if !c.fit(s) {
+        if !c.fit(v) {
             return false;
         }
     }

@@ -19,7 +19,7 @@ loop-number-init c =
     let same = c.into_iter-number-iterator.ensures.into_iter_gives in
     let rest : c.into_iter-number-iterator.result.rest.now ≡ take (a.self.at + c.from.result * 16 * c.element_size-size.result - a.self.at) (drop a.self.at a.v.now) = rw same c.chunks_exact-number-items.ensures.rest in
     let long : a.self.at + c.from.result * 16 * c.element_size-size.result - a.self.at ≡ r.count * 16 * element_size r.kind = rw (c.from.ensures, z) (omega arith) in
-    let all = run_begins (element_size r.kind) (inside r) (r.count * 16) _ (drop a.self.at a.v.now) _ long (omega (arith, long, c.requires.0, length-drop a.self.at a.v.now)) rest in
+    let all = run_begins (element_size r.kind) (inside r) (r.count * 16) _ (drop a.self.at a.v.now) _ long (omega (arith, long, c.requires, c.type_inv.v, length-drop a.self.at a.v.now)) rest in
     record {
       by_size = ap (λ (s : ChunksExact ℕ). s.size) same ∙ (c.chunks_exact-number-items.ensures.size ∙ z);
       length_left = all.0;

@@ -11,4 +11,4 @@ loop-e-preserved c =
     let a = c.args in
     let l = c.loop-e in
     put_within l.v c.put_number.new.bytes c.place_of-at.result (c.place_of-at.result + c.element_size-size.result) _ c.element_size-size.result c.element.result (omega arith) (omega arith) (omega arith) refl c.put_number.ensures
-    ∙ rw (c.place_of-at.ensures.0, c.element_size-size.ensures, c.element.ensures, l.invariant) (take_next a.self a.slot a.part.now a.v.now l.e)
+    ∙ rw (c.place_of-at.ensures.0, c.element_size-size.ensures, c.element.ensures, l.invariant) (take_next a.self a.slot.at a.part.now a.v.now l.e)

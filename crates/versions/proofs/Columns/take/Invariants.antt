@@ -4,4 +4,4 @@ use Rattle.versions.specs.Keep.{take_elements}
 use Rattle.versions.proofs.Columns.take.Given as goal
 
 abbrev pub invariant-loop-e : goal.invariant-loop-e
-invariant-loop-e l = l.v ≡ take_elements l.self l.slot l.part l.e l.initial.v
+invariant-loop-e l = l.v ≡ take_elements l.self l.slot.at l.part l.e l.initial.v

@@ -3,7 +3,7 @@ use mathlib.Core.Path.{◌≡◌, refl, ◌∙◌, ap}
 use mathlib.Core.List.{List}
 use Prim.Native.Nat.{ℕ}
 use native.Mathlib.Omega.{arith}
-use lib.ListN.{length}
+use native.Mathlib.Numerals.{add-one}
 use Rattle.codes.specs.Number.{put}
 use Rattle.catalogue.specs.Table.{rows}
 use Rattle.versions.specs.Low.{low_bytes}
@@ -13,16 +13,20 @@ use Rattle.versions.proofs.Bytewise.{put_within}
 use Rattle.versions.proofs.Slots.{filled_alone, filled_is}
 use Rattle.versions.proofs.keep.fill.Goals as goal
 
-pub returns-then-v-ne-SIZE : goal.returns-then-v-ne-SIZE
+pub returns-in_default : goal.returns-in_default
 unfolding last_at rows
-returns-then-v-ne-SIZE c = let a = c.args in filled_alone a.part.now a.v.now c.if-v-ne-SIZE.true
+returns-in_default c = let a = c.args in filled_alone a.part.now a.v.now c.in_default.ensures.cases
+
+pub loop-at-preserved : goal.loop-at-preserved
+loop-at-preserved c = c.take_rows.ensures ∙ rw (add-one c.loop-at.at, c.loop-at.invariant) refl
 
 pub returns : goal.returns
 unfolding last_at rows
 returns c =
     let a = c.args in
-    let l = c.loop-slot in
-    let e : l.slot ≡ 16 = omega arith in
-    put_within l.v c.put_number.new.bytes 640 (length l.v) _ 2 0 (omega arith) (omega arith) (omega arith) refl c.put_number.ensures
-    ∙ (ap (λ (x : List ℕ). put x last_at (low_bytes 2 0)) (l.invariant ∙ ap (λ (k : ℕ). fill_slots k a.part.now a.v.now) e)
-    ∙ filled_is a.part.now a.v.now c.if-v-ne-SIZE.false)
+    let l = c.loop-at in
+    let whole = c.in-Some.ensures.cases in
+    let e : l.at ≡ 16 = omega arith in
+    put_within l.v c.put_number.new.bytes 640 642 _ 2 0 (omega arith) (omega arith) (omega arith) refl c.put_number.ensures
+    ∙ (ap (λ (x : List ℕ). put x last_at (low_bytes 2 0)) (l.invariant ∙ (ap (λ (k : ℕ). fill_slots k a.part.now c.in-Some.v.now) e ∙ ap (fill_slots 16 a.part.now) whole.same))
+    ∙ filled_is a.part.now a.v.now whole.long)

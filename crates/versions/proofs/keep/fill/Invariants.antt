@@ -3,5 +3,5 @@ use mathlib.Core.Path.{◌≡◌}
 use Rattle.versions.specs.Keep.{fill_slots}
 use Rattle.versions.proofs.keep.fill.Given as goal
 
-abbrev pub invariant-loop-slot : goal.invariant-loop-slot
-invariant-loop-slot l = l.v ≡ fill_slots l.slot l.part l.initial.v
+abbrev pub invariant-loop-at : goal.invariant-loop-at
+invariant-loop-at l = l.v ≡ fill_slots l.at l.part l.initial.v

@@ -11,7 +11,7 @@ pub returns : goal.returns
 unfolding columns columns_at rows
 returns c =
     let a = c.args in
-    each_row (λ (k : Columns). give_elements k a.slot a.v.now k.row.count) a.part.now _ _ _ _ _ _ _
+    each_row (λ (k : Columns). give_elements k a.slot.at a.v.now k.row.count) a.part.now _ _ _ _ _ _ _
     c.give.ensures
     c.give-2.ensures
     c.give-3.ensures

@@ -11,7 +11,7 @@ pub returns : goal.returns
 unfolding columns columns_at rows
 returns c =
     let a = c.args in
-    each_row (λ (k : Columns). take_elements k a.slot a.part.now k.row.count) a.v.now _ _ _ _ _ _ _
+    each_row (λ (k : Columns). take_elements k a.slot.at a.part.now k.row.count) a.v.now _ _ _ _ _ _ _
     c.take.ensures
     c.take-2.ensures
     c.take-3.ensures
