@@ -21,7 +21,8 @@ pub const BLOCK_LIMIT: usize = 240;
 // The most parameters of a block.
 const MOST_PARAMETERS: u8 = 39;
 
-// The four bytes that a block begins with; `count` is its number of parameters.
+// The four bytes that a block begins with; `count` is its number of parameters. They are bytes of any value, here and in `Head`, as
+// `header_of` and `block_at` promise them of every block, and so no enums.
 #[derive(Clone, Copy)]
 pub struct Header {
     pub reference: u8,
@@ -157,7 +158,7 @@ fn answer_at(s: &[u8], at: usize, id: u8) -> Option<Head>
     sized(s, at, layout::code_size(format))
 }
 
-// The j-th value of the block of a change that stands at `at`.
+// The j-th value of the block of a change that stands at `at`; 0 where there is none, as `value_at` of specs/ promises.
 pub fn value_at(s: &[u8], at: usize, j: usize) -> u32
     ensures { result ≡ value_at s.now at j }
 {
@@ -171,7 +172,7 @@ pub fn value_at(s: &[u8], at: usize, j: usize) -> u32
     }
 }
 
-// Where n blocks that start at `from` end, each of which passes the rule.
+// Where n blocks that start at `from` end, each of which passes the rule. Where the next begins is known from each alone.
 fn blocks_end<R: Rule>(rule: R, s: &[u8], from: usize, n: usize) -> Option<Reached>
     requires { from ≤ length s.now }
     ensures { Walked s.now (map_got has_error ((times n (block (R.fits rule))).read (drop from s.now))) result }

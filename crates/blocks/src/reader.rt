@@ -37,7 +37,8 @@ fn address_here(s: &[u8], at: usize) -> Address
     }
 }
 
-// The address whose six bytes stand at a place, for who knows that it is one of the block's; zeros where they do not stand there.
+// The address whose six bytes stand at a place, for who knows that it is one of the block's; zeros where they do not stand
+// there: an Option would cost each address some 20 instructions more.
 pub fn address_of(block: &[u8], at: usize) -> Address
     ensures { result ≡ address_in block.now at }
 {
@@ -71,6 +72,16 @@ impl<'a> Reader<'a> {
         ensures { (result.block ≡ block.entry) × (result.at ≡ 4) }
     {
         Reader { block, at: FIRST }
+    }
+
+    // The reader at another place.
+    pub fn moved(self, at: usize) -> Self
+        ensures { (result.block ≡ self.entry.block) × (result.at ≡ at) }
+    {
+        Reader {
+            block: self.block,
+            at,
+        }
     }
 }
 

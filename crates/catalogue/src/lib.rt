@@ -264,7 +264,7 @@ pub const ROW_30004: Row = Row {
     offset: AT_30004,
 };
 
-// What stands past the end of the table.
+// What stands past the end of the table: `row_at` of specs/ answers it for every number, so that it is no Option.
 const NO_ROW: Row = Row {
     low: 0,
     high: 0,

@@ -42,7 +42,7 @@ pub struct Input {
     pub stw1: u16,
     pub nsoll: N2,
     pub nist: N2,
-    pub fault: u16,
+    pub fault: u16, // 0: none, as the telegram has it
     pub reference: u16, // PNU 10111
     pub window: u16, // PNU 30002
     pub threshold: u16, // PNU 30003
@@ -88,8 +88,8 @@ pub fn fresh() -> Drive
     }
 }
 
-// What a drive record holds beside its faults, and the whole of it with faults. Each is a field or a struct's text, and so no call of the
-// project's own; they stay, as their promises were named in the pages.
+// What a drive record holds beside its faults, and the whole of it with faults. Each is a field or a struct's text, and nothing here calls
+// them; they stay, as public and named in the pages.
 pub fn motion_of(d: Drive) -> Motion
     ensures { result ≡ motion_of d }
 {

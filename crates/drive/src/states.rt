@@ -4,7 +4,6 @@ ghost use Rattle.drive.specs.Cycle.{from_s1, from_s2, from_s3, from_s4, from_s51
 ghost use Rattle.drive.specs.States.{name_of, number_of, state_found};
 
 use super::word::Word;
-use std::error::Error;
 use std::fmt;
 
 #[derive(Clone, Copy, Debug, PartialEq, Eq)]
@@ -71,14 +70,6 @@ impl fmt::Display for State {
         })
     }
 }
-
-impl fmt::Display for UnknownState {
-    fn fmt<W: fmt::Write>(&self, f: &mut fmt::Formatter<W>) -> fmt::Result {
-        write!(f, "no state has number {}", self.0)
-    }
-}
-
-impl Error for UnknownState {}
 
 // Switching on inhibited.
 fn from_s1(b: Word) -> State

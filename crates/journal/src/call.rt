@@ -14,13 +14,13 @@ pub(crate) fn cycle(station: &mut [u8], bytes: &[u8]) -> CycleDone
     ensures station_after { station.new ≡ after kinds (cycle_call bytes.now) station.old }
 {
     let sent = Sent {
-        flags: bytes[2] as u32,
+        flags: u32::from(bytes[2]),
         stw1: codes::word_at(bytes, 3),
         nsoll: codes::word_at(bytes, 5).cast_signed(),
         nist: codes::word_at(bytes, 7).cast_signed(),
         fault: codes::word_at(bytes, 9),
     };
-    station::cycle(station, bytes[1] as u32, sent)
+    station::cycle(station, u32::from(bytes[1]), sent)
 }
 
 // The frame of a record, by itself or as the merged call, answered in a reply memory of zeros.

@@ -77,7 +77,8 @@ pub fn play(station: &mut [u8], bytes: &[u8], line: &mut [u8; LINE]) -> Played
     }
 }
 
-// Makes the call of a record on the station and answers what it did, with no line; nothing, where the bytes are no record.
+// Makes the call of a record on the station and answers what it did, with no line; nothing, where the bytes are no record. It hands on no
+// reply, which a line has, so that `play` does not go through it.
 pub fn act(station: &mut [u8], bytes: &[u8]) -> Option<Acted>
     ensures value { result ≡ acted_of bytes.now station.old }
     ensures station_after { station.new ≡ record_after bytes.now station.old }

@@ -1,4 +1,5 @@
-// Text, written in memory that is lent.
+// Text, written in memory that is lent. Digits are put one by one, and not by the library's printing, whose bytes no promise names: those of a
+// line are promised by `decimal` and `hex_byte`.
 ghost use Rattle.std.specs.Prelude.{◌≡◌, ◌∷◌, ◌++◌, ◌≤◌, ◌<◌, length, drop};
 ghost use Rattle.journal.specs.Text.{digit, decimal};
 ghost use Rattle.journal.specs.Line.{space};
@@ -154,7 +155,7 @@ fn spaced_number(memory: &mut [u8; NUMBER], x: u64) -> usize
     text.len()
 }
 
-// A space and a number, at a place of a line of any kind; nothing where they do not all fit. Answers how many bytes they are.
+// The same at a place of a line of any kind. No crate calls it any more; it stays as public and promises what it did.
 pub fn put_spaced_number(line: &mut [u8], at: usize, x: u64) -> usize
     ensures line_after { line.new ≡ put line.old at (space ∷ decimal x) }
     ensures value { (result ≡ length (space ∷ decimal x)) × (result ≤ 21) }

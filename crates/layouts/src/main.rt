@@ -2,7 +2,7 @@
 #![tactic(auto)]
 
 use blocks::Header;
-use blocks::reader::{Address, FIRST, address_at};
+use blocks::reader::{Address, Reader};
 use blocks::writer::{block_size, put_block, put_empty, put_error, put_header};
 use std::io;
 
@@ -433,16 +433,15 @@ fn print_address(rt: &impl Print, a: Address) -> io::Result<()> {
 
 // Answers where the addresses end.
 fn print_addresses(rt: &impl Print, block: &[u8]) -> io::Result<usize> {
-    let mut at = FIRST;
+    let mut reader = Reader::new(block);
     for _ in block {
-        let Some((a, next)) = address_at(block, at) else {
+        let Some(a) = reader.next() else {
             break;
         };
         print_address(rt, a)?;
-        println!(rt; ", next at {next}")?;
-        at = next;
+        println!(rt; ", next at {}", reader.at)?;
     }
-    Ok(at)
+    Ok(reader.at)
 }
 
 fn print_values(rt: &impl Print, block: &[u8], at: usize, n: u8) -> io::Result<()> {

@@ -76,7 +76,8 @@ fn situations_fit(part: &Part) -> bool
     })
 }
 
-// Whether no situation has a second code: mostly so, and then all are in order. No early exit, as in `join_all`.
+// Whether no situation has a second code: mostly so, and then all are in order. No early exit, as in `join_all`, and by places, as the codes
+// are bytes here.
 fn are_single(part: &Part) -> bool
     ensures { result ≡ true → proper_faults (faults_of part.now) ≡ true }
 {

@@ -9,5 +9,5 @@ pub fn is_used_up(part: &[u8]) -> bool
     if part.len() != super::SIZE {
         return false;
     }
-    versions::last_used(&part[super::VERSIONS..]) == 65535
+    versions::last_used(&part[super::VERSIONS..]) == u16::MAX
 }

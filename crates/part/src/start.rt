@@ -17,6 +17,7 @@ fn fresh_row(part: &mut [u8], r: Row)
 fn fresh_rows(part: &mut [u8])
     ensures { part.new ≡ fresh_rows rows part.old }
 {
+    // By number: the table is the catalogue's own, and `row_at` is what it promises.
     for i in 0..catalogue::ROWS {
         fresh_row(part, catalogue::row_at(i));
     }

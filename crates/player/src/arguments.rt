@@ -64,7 +64,8 @@ impl Player {
         }
     }
 
-    // Plays the files that the arguments name, each after the end of the one before; with no argument, standard input.
+    // Plays the files that the arguments name, each after the end of the one before; with no argument, standard input. The system hands
+    // arguments out by number, and a proved loop has to end: this one counts up to a number of arguments that no program has.
     pub(crate) fn play_arguments(&mut self, rt: &HostRuntime) -> Result<(), Stop> {
         if !has_argument(rt, 1) {
             return self.play_input(rt);

@@ -13,7 +13,7 @@ pub(crate) fn write<R: Print + Eprint>(rt: &R, text: &[u8]) -> Result<(), Stop> 
         .map_err(|error| fail(rt, "standard output", error))
 }
 
-// The output that is collected: as many bytes as are used.
+// The output that is collected: as many bytes as are used. Fixed memory, as nothing here allocates.
 #[derive(Drop)]
 pub(crate) struct Output {
     bytes: [u8; OUT],

@@ -8,7 +8,8 @@ use std::io::Read;
 // Bytes of a file that are read and not worked yet, at most.
 const INPUT: usize = 65536;
 
-// What of a file is read and not worked yet, from `start` to `end`, and whether more may come.
+// What of a file is read and not worked yet, from `start` to `end`, and whether more may come: bytes may be left where none comes. Fixed
+// memory, as nothing here allocates.
 #[derive(Drop)]
 pub(crate) struct Window {
     bytes: [u8; INPUT],

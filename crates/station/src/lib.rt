@@ -123,6 +123,7 @@ pub fn fresh(station: &mut [u8]) -> Result<(), Refusal>
     if station.len() != STATION {
         return Err(Refusal::NotWellFormed);
     }
+    // By number: of the chunks that the library lends no proof knows the bytes afterwards.
     for i in 0..FARMS {
         let start = i * part::SIZE;
         part::fresh(&mut station[start..start + part::SIZE]);
@@ -138,6 +139,8 @@ pub fn cycle(station: &mut [u8], axis: u32, sent: Sent) -> CycleDone
     cycle_of(station, axis, sent).unwrap_or_else(CycleDone::from)
 }
 
+// This and the three like it stand apart for `?`. Each promises another answer, so that one function of all would take its promise and its
+// work as parameters.
 fn cycle_of(station: &mut [u8], axis: u32, sent: Sent) -> Result<CycleDone, Refusal>
     ensures value { to_cycle (told refused_cycle result) ≡ answer kinds (cycle axis sent) station.old }
     ensures station_after { station.new ≡ after kinds (cycle axis sent) station.old }
@@ -171,6 +174,7 @@ pub fn exchange(station: &mut [u8], farm: u32, f: &[u8], reply: &mut [u8]) -> Fr
     ensures station_after { station.new ≡ after kinds (exchange farm f.now reply.old) station.old }
 {
     let written = frame(station, farm, judge::without_read(f), reply);
+    // By C's number: what `frame` hands on is C's struct.
     if written.number != 0 {
         return written;
     }

@@ -30,6 +30,7 @@ pub(crate) fn refuse(f: &[u8], reply: &mut [u8], refusal: Refusal) -> Framed
     ensures reply_after { reply.new ≡ put reply.old 0 (refused_reply f.now (refusal_number refusal)) }
 {
     let empty = Framed::from(refusal);
+    // By their numbers, as the rule says it.
     if empty.number < 5 {
         return empty;
     }

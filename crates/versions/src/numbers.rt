@@ -5,7 +5,7 @@ ghost use Rattle.versions.specs.Version.{is_kept};
 
 const MOST: u16 = super::SLOTS as u16;
 
-// The kept numbers are `oldest` .. `oldest + count - 1`.
+// The kept numbers are `oldest` .. `oldest + count - 1`. Both are promised of every list, an empty one too, and C is handed both.
 #[derive(Clone, Copy)]
 pub struct Kept {
     pub oldest: u16,
