@@ -1,4 +1,4 @@
-// What an address names: the elements of a parameter, or its error.
+// What an address names: the elements of a parameter, or its error. Widening is written `as`: a proof reads on through it (decision 126).
 ghost use Rattle.std.specs.Prelude.{◌≡◌, true, false, cond, eqb, Some};
 ghost use Rattle.access.specs.declared.error.ParameterError.TheVariants.{NoDescription, NoText, BadAddress};
 ghost use Rattle.access.specs.Address.{checked_in, checked};

@@ -1,5 +1,5 @@
-// Text, written in memory that is lent. Digits are put one by one, and not by the library's printing, whose bytes no promise names: those of a
-// line are promised by `decimal` and `hex_byte`.
+// Text, written in memory that is lent. Digits are put one by one: the library promises what it prints only where that is Ok, and never that it
+// is, and a line is promised of every record (`record_line`).
 ghost use Rattle.std.specs.Prelude.{◌≡◌, ◌∷◌, ◌++◌, ◌≤◌, ◌<◌, length, drop};
 ghost use Rattle.journal.specs.Text.{digit, decimal};
 ghost use Rattle.journal.specs.Line.{space};

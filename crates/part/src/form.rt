@@ -76,8 +76,8 @@ fn situations_fit(part: &Part) -> bool
     })
 }
 
-// Whether no situation has a second code: mostly so, and then all are in order. No early exit, as in `join_all`, and by places, as the codes
-// are bytes here.
+// Whether no situation has a second code: mostly so, and then all are in order. No early exit, as in `join_all`, and by places: of a
+// chunk for each the first code would be cut off again.
 fn are_single(part: &Part) -> bool
     ensures { result ≡ true → proper_faults (faults_of part.now) ≡ true }
 {
