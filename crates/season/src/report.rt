@@ -18,8 +18,8 @@ fn put_spaced(text: &mut Text, numbers: &[u64])
 }
 
 // The line of a farm.
-fn put_line(text: &mut Text, totals: &[u64], farm: usize)
-    requires { (length totals.now ≡ 160) × ((1 ≤ farm) × ((farm ≤ 16) × room 233 text.old)) }
+fn put_line(text: &mut Text, totals: &[u64; COUNTS], farm: usize)
+    requires { (1 ≤ farm) × ((farm ≤ 16) × room 233 text.old) }
     ensures { Wrote 233 (farm_line farm totals.now) text.old text.new }
 {
     let first = (farm - 1) * EACH;
@@ -30,8 +30,8 @@ fn put_line(text: &mut Text, totals: &[u64], farm: usize)
 }
 
 // The lines of all farms, in farm order.
-fn put_lines(text: &mut Text, totals: &[u64])
-    requires { (length totals.now ≡ 160) × room 3728 text.old }
+fn put_lines(text: &mut Text, totals: &[u64; COUNTS])
+    requires { room 3728 text.old }
     ensures { Wrote 3728 (lines_to 16 totals.now) text.old text.new }
 {
     for farm in 1..=FARMS {

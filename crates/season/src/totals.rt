@@ -3,7 +3,7 @@ ghost use Rattle.std.specs.Prelude.{◌≡◌, true, false, [], length, MatchOpt
 ghost use Rattle.station.specs.Calls.{to_cycle, to_frame, to_return};
 ghost use Rattle.season.specs.Season.{answer_counts, plus, reaches, added};
 
-use super::{EACH, Stop};
+use super::{COUNTS, EACH, Stop};
 use station::{CycleDone, FARMS, Framed, Returned};
 
 // What a cycle counts. State and number are numbers in what the C interface hands on, here and below.
@@ -53,8 +53,7 @@ fn sums(totals: &[u64], counts: &[u64; EACH]) -> Option<[u64; EACH]>
 }
 
 // Adds counts to those of farm k: all of them, or none.
-pub(crate) fn add(totals: &mut [u64], k: u8, counts: &[u64; EACH]) -> Result<(), Stop>
-    requires { length totals.old ≡ 160 }
+pub(crate) fn add(totals: &mut [u64; COUNTS], k: u8, counts: &[u64; EACH]) -> Result<(), Stop>
     ensures value { result ≡ (added k counts.now totals.old).last }
     ensures totals_after { totals.new ≡ (added k counts.now totals.old).totals }
 {
