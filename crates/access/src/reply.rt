@@ -45,9 +45,10 @@ impl Reply {
         requires { self.old.next + 2 ≤ block_limit }
         ensures { self.new ≡ with_block empty_block self.old }
     {
-        self.bytes[self.next] = 0x40;
-        self.bytes[self.next + 1] = 0;
-        self.next += 2;
+        let at = self.next;
+        self.bytes[at] = 0x40;
+        self.bytes[at + 1] = 0;
+        self.next = at + 2;
     }
 
     // The response that waits: the request's header with another identifier, and the blocks after it.
