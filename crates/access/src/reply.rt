@@ -45,7 +45,7 @@ impl Reply {
         requires { self.old.next + 2 ≤ block_limit }
         ensures { self.new ≡ with_block empty_block self.old }
     {
-        let at = self.next;
+        let at = self.next; // once, as a byte that is stored may be the place's, as far as the compiler sees
         self.bytes[at] = 0x40;
         self.bytes[at + 1] = 0;
         self.next = at + 2;
