@@ -11,6 +11,7 @@ use blocks::Header;
 use blocks::reader::FIRST;
 
 // A response as far as it is written: its bytes, with room for the header first, where the next block goes, and whether one is an error.
+// An error block and `40 00` are written last, after the place is moved on (decision 97).
 #[derive(Drop)]
 pub struct Reply {
     pub bytes: [u8; blocks::BLOCK_LIMIT],
@@ -35,9 +36,10 @@ impl Reply {
         requires { self.old.next ≤ block_limit }
         ensures { self.new ≡ with_block (error_block error) self.old }
     {
-        blocks::writer::put_error(&mut self.bytes, self.next, u16::from(error));
-        self.next += 4;
+        let at = self.next;
+        self.next = at + 4;
         self.error = true;
+        blocks::writer::put_error(&mut self.bytes, at, u16::from(error));
     }
 
     // `40 00`: an address of a change that did not fail.
@@ -45,10 +47,10 @@ impl Reply {
         requires { self.old.next + 2 ≤ block_limit }
         ensures { self.new ≡ with_block empty_block self.old }
     {
-        let at = self.next; // once, as a byte that is stored may be the place's, as far as the compiler sees
+        let at = self.next;
+        self.next = at + 2;
         self.bytes[at] = 0x40;
         self.bytes[at + 1] = 0;
-        self.next = at + 2;
     }
 
     // The response that waits: the request's header with another identifier, and the blocks after it.
