@@ -1,15 +1,13 @@
 -- How an address of a change is answered: by `40 00` or by an error, of at most four bytes.
 use Rattle.std.specs.Prelude.{Result, Ok, Err}
 use Rattle.access.specs.declared.error.ParameterError.{ParameterError}
-use mathlib.Core.Path.{◌≡◌, refl}
 use mathlib.Core.Bool.{Bool, true, false, cond, not, ◌||◌}
 use mathlib.Core.List.{List, [], ◌∷◌}
-use Prim.Native.Nat.{ℕ, ◌+◌, ◌*◌, ◌≤◌}
+use Prim.Native.Nat.{ℕ, ◌*◌, ◌≤◌}
 use native.Mathlib.Omega.{arith}
 use lib.Dec.{eqb, lit≤}
 use lib.ListN.{length, length-append}
 use Rattle.codes.specs.Code.{write_all}
-use Rattle.codes.specs.Number.{put}
 use Rattle.blocks.specs.Block.{Block}
 use Rattle.blocks.specs.Page.{block_bytes}
 use Rattle.blocks.specs.declared.reader.Address.{Address}
@@ -18,12 +16,9 @@ use Rattle.catalogue.specs.Element.{size_code, type_code}
 use Rattle.access.specs.declared.error.ParameterError.TheVariants.{ReadOnly, OutsideLimits, WrongType, WrongCount}
 use Rattle.access.specs.Address.{checked, error_block, empty_block}
 use Rattle.access.specs.Change.{Changed, failure, all_inside, store_whole, of_elements, of_checked, change_one, change_all}
-use Rattle.access.specs.Walk.{answer_in, Wrote}
+use Rattle.access.specs.Walk.{answer_in}
 use Rattle.access.proofs.Checks.{pick}
 use Rattle.access.proofs.Room.{error_size}
-
-pub answer_empty : (l m : List ℕ) (at n : ℕ) → m ≡ put l at (0x40 ∷ 0 ∷ []) → Wrote l m at (answer_in (Ok n)) (record { next = at + 2; error = false })
-answer_empty l m at n p = record { bytes = p; next = refl; error = refl }
 
 -- an answer takes at most four bytes
 error_short : (e : ParameterError) → length (block_bytes (error_block e)) ≤ 4

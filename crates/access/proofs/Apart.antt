@@ -3,7 +3,7 @@
 use Rattle.std.specs.Prelude.{Result, Ok, Err}
 use Rattle.catalogue.specs.declared.Row.{Row}
 use Rattle.access.specs.declared.error.ParameterError.{ParameterError}
-use mathlib.Core.Path.{◌≡◌, refl, ap, subst, ◌∙◌}
+use mathlib.Core.Path.{◌≡◌, refl, ap, ◌∙◌}
 use mathlib.Core.Bool.{Bool, true, false, cond, not, ◌||◌}
 use mathlib.Core.List.{List, [], ◌∷◌, ◌++◌, append-nil}
 use mathlib.Core.Logic.{◌⊎◌, inl, inr}
@@ -15,10 +15,10 @@ use lib.Seq.{take-length, drop-length}
 use Rattle.blocks.specs.Block.{Block}
 use Rattle.blocks.specs.declared.reader.Address.{Address}
 use Rattle.catalogue.specs.Element.{size_code, type_code}
-use Rattle.access.specs.declared.change.Changes.{Changes}
+use Rattle.access.specs.declared.reply.Reply.{Reply}
 use Rattle.access.specs.Address.{checked}
 use Rattle.access.specs.Change.{Changed, all_inside, of_checked, change_one, ChangedAll, change_all}
-use Rattle.access.specs.Walk.{WroteAll, DidAll}
+use Rattle.access.specs.Walk.{with_blocks, DidAll}
 use Rattle.access.proofs.Answers.{change_cases}
 use Rattle.access.proofs.Lengths.{change_length}
 
@@ -72,11 +72,11 @@ pub lent_few : (only : Bool) (n : ℕ) (p : List ℕ) → Lent only n p → n �
 lent_few only n p (inl x) = omega (arith, x.1)
 lent_few only n p (inr x) = omega (arith, x.1)
 
-pub did_told : (only : Bool) (n : ℕ) (p : List ℕ) → Lent only n p → (them : List Address) (sent : List Block) (m l k : List ℕ) (d : Changes) → DidAll (change_all them sent (take n p)) m l k d → DidAll (told only them sent p) (m ++ drop n p) l k d
-did_told only n p came them sent m l k d o =
+pub did_told : (only : Bool) (n : ℕ) (p : List ℕ) → Lent only n p → (them : List Address) (sent : List Block) (m : List ℕ) (x y : Reply) (stored : ℕ) → DidAll (change_all them sent (take n p)) m x y stored → DidAll (told only them sent p) (m ++ drop n p) x y stored
+did_told only n p came them sent m x y stored o =
     let alike = all_alike them sent (take n p) p in
     record {
-      wrote = subst (λ (bs : List Block). WroteAll l k 4 bs (record { next = d.next; error = d.error })) alike.0 o.wrote;
+      wrote = o.wrote ∙ ap (λ (bs : List Block). with_blocks bs x) alike.0;
       part = go came;
       stored = o.stored ∙ alike.1;
     }

@@ -2,7 +2,7 @@
 use Rattle.std.specs.Prelude.{Result, Ok, Err}
 use Rattle.access.specs.declared.error.ParameterError.{ParameterError}
 use mathlib.Core.Path.{◌≡◌, refl, sym, ◌∙◌, ap, subst}
-use mathlib.Core.Bool.{Bool, true, false, cond}
+use mathlib.Core.Bool.{Bool, true, false, cond, ◌||◌}
 use mathlib.Core.List.{List, [], ◌∷◌}
 use Prim.Native.Nat.{ℕ, suc, ◌+◌, ◌*◌, ◌%◌, ◌≤◌, ◌<◌}
 use native.Mathlib.Omega.{arith}
@@ -13,6 +13,7 @@ use Rattle.codes.specs.Code.{write_all}
 use Rattle.codes.specs.Number.{put}
 use Rattle.blocks.specs.Block.{Block, block_limit, value_size}
 use Rattle.blocks.specs.Page.{block_bytes}
+use Rattle.blocks.specs.Response.{is_error}
 use Rattle.blocks.specs.declared.reader.Address.{Address}
 use Rattle.blocks.proofs.Blocks.{values_size_lem, fill_even}
 use Rattle.blocks.proofs.Parts.{block_written, error_bytes}
@@ -24,7 +25,8 @@ use Rattle.catalogue.specs.Element.{size_code}
 use Rattle.access.specs.declared.error.ParameterError.TheVariants.{NoRoom}
 use Rattle.access.specs.Address.{checked, error_number, error_block}
 use Rattle.access.specs.Read.{elements_from, block_size, fitted, answer_to, read_block, read_blocks}
-use Rattle.access.specs.Walk.{Wrote}
+use Rattle.access.specs.Walk.{with_block}
+use Rattle.access.proofs.Filled.{sofar, or_none}
 use Rattle.access.proofs.Gathered.{elements_length}
 use Rattle.access.proofs.Answers.{size_same}
 
@@ -58,14 +60,12 @@ module _ (r : Row) (i n : ℕ) (p : List ℕ) (w : ℕ) (wide : w ≡ element_si
   elements_fit : at + size + 4 * after ≤ block_limit → fitted at after b ≡ b
   elements_fit h = rw (le-leb (at + block_size b + 4 * after) block_limit (omega (arith, size_is)))
 
-  pub elements_written : (l m : List ℕ) → at + size + 4 * after ≤ block_limit → m ≡ put l at (block_bytes b) → Wrote l m at (fitted at after b) (record { next = at + size; error = false })
-  elements_written l m h e =
-      subst (λ (x : Block). Wrote l m at x (record { next = at + size; error = false })) (sym (elements_fit h))
-      (record {
-        bytes = e;
-        next = ap (λ (k : ℕ). at + k) (size_is ∙ size_written b);
-        error = sym (no_error r.kind);
-      })
+  pub elements_written : (l m : List ℕ) (e : Bool) → at + size + 4 * after ≤ block_limit → m ≡ put l at (block_bytes b) → sofar m (at + size) e ≡ with_block (fitted at after b) (sofar l at e)
+  elements_written l m e h put_there =
+      let next : at + size ≡ at + length (block_bytes b) = ap (λ (k : ℕ). at + k) (size_is ∙ size_written b) in
+      let same : e ≡ (e || is_error b) = or_none e ∙ ap (λ (t : Bool). e || t) (sym (no_error r.kind)) in
+      subst (λ (x : Block). sofar m (at + size) e ≡ with_block x (sofar l at e)) (sym (elements_fit h))
+      (λ i. sofar (put_there i) (next i) (same i))
 
 -- what the checks of an address say decides its block
 pub block_is : (p : List ℕ) (at after : ℕ) (a : Address) (c : Result (Row × ℕ) ParameterError) → c ≡ checked a → answer_to p at after a c ≡ read_block p at after a

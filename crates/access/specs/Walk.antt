@@ -1,33 +1,37 @@
 -- What the steps of the code leave, said of the definitions. No contract of a public function cites this page.
-use Rattle.std.specs.Prelude.{◌≡◌, cond, not, ◌&&◌, List, [], ℕ, ◌+◌, ◌≤◌, eqb, length, drop, Result, Ok, Err}
+use Rattle.std.specs.Prelude.{◌≡◌, false, cond, not, ◌&&◌, ◌||◌, List, [], ◌∷◌, ℕ, ◌+◌, ◌≤◌, eqb, length, drop, replicate, Result, Ok, Err}
 use Rattle.std.specs.Result.{result_unwrap_or}
-use Rattle.codes.specs.Code.{read_times, write_all}
+use Rattle.codes.specs.Code.{read_times}
 use Rattle.codes.specs.Number.{value_or, put}
 use Rattle.drive.specs.Faults.{buffer_codes}
-use Rattle.blocks.specs.Block.{Block, change_block_fits, block}
+use Rattle.blocks.specs.Block.{Block, block_limit, change_block_fits, block}
 use Rattle.blocks.specs.Page.{block_bytes}
 use Rattle.blocks.specs.Request.{Request, request}
-use Rattle.blocks.specs.Response.{is_error, has_error, response}
+use Rattle.blocks.specs.Response.{is_error, response}
 use Rattle.part.specs.Layout.{with_response, used_up}
-use Rattle.access.specs.declared.reply.Written.{Written}
-use Rattle.access.specs.declared.change.Changes.{Changes}
+use Rattle.access.specs.declared.reply.Reply.{Reply}
 use Rattle.access.specs.declared.error.ParameterError.{ParameterError}
 use Rattle.access.specs.declared.error.Refused.{Refused}
 use Rattle.access.specs.Address.{error_block, empty_block}
 use Rattle.access.specs.Change.{Changed, ChangedAll}
 use Rattle.access.specs.Work.{Worked, worked_change, Outcome, refused, number_in, stored_in}
 
--- the block b is put at a place of l, which is then m; w says where the next goes, and whether b was an error
-pub record Wrote (l m : List ℕ) (at : ℕ) (b : Block) (w : Written) : Type 0 where
-  pub bytes : m ≡ put l at (block_bytes b)
-  pub next : w.next ≡ at + length (block_bytes b)
-  pub error : w.error ≡ is_error b
+-- a response with no block yet
+abbrev pub no_blocks : Reply
+no_blocks = record { bytes = replicate block_limit 0; next = 4; error = false }
 
--- the same of blocks, one after the other
-pub record WroteAll (l m : List ℕ) (at : ℕ) (bs : List Block) (w : Written) : Type 0 where
-  pub bytes : m ≡ put l at (write_all block_bytes bs)
-  pub next : w.next ≡ at + length (write_all block_bytes bs)
-  pub error : w.error ≡ has_error bs
+-- with one block more, and with blocks one after the other
+abbrev pub with_block : Block → Reply → Reply
+with_block b x =
+    record {
+      bytes = put x.bytes x.next (block_bytes b);
+      next = x.next + length (block_bytes b);
+      error = x.error || is_error b;
+    }
+
+abbrev pub with_blocks : List Block → Reply → Reply
+with_blocks [] x = x
+with_blocks (b ∷ bs) x = with_blocks bs (with_block b x)
 
 -- the block of a change at a place, and n of them in a row; none where they are not readable
 abbrev pub block_in : List ℕ → ℕ → Block
@@ -51,11 +55,11 @@ pub record Did (c : Changed) (m : List ℕ) (d : Result ℕ ParameterError) : Ty
   pub stored : counted d ≡ c.stored
   pub few : counted d ≤ buffer_codes
 
--- all addresses came to c: their answers are put after the header in l, which is then k
-pub record DidAll (c : ChangedAll) (m l k : List ℕ) (d : Changes) : Type 0 where
-  pub wrote : WroteAll l k 4 c.blocks (record { next = d.next; error = d.error })
+-- all addresses came to c: m is the part then, x with their answers is y, and n elements were stored
+pub record DidAll (c : ChangedAll) (m : List ℕ) (x y : Reply) (n : ℕ) : Type 0 where
+  pub wrote : y ≡ with_blocks c.blocks x
   pub part : m ≡ c.part
-  pub stored : d.stored ≡ c.stored
+  pub stored : n ≡ c.stored
 
 -- the request that is read from a block
 abbrev pub request_in : List ℕ → Request

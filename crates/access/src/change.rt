@@ -10,10 +10,10 @@ ghost use Rattle.blocks.specs.declared.Head.{Head};
 ghost use Rattle.catalogue.specs.Table.{element_size};
 ghost use Rattle.catalogue.specs.Element.{size_code, type_code, value_of};
 ghost use Rattle.access.specs.Change.{all_inside, store_from, store_whole, of_elements, change_one, change_all};
-ghost use Rattle.access.specs.Walk.{block_in, blocks_in, answer_in, Did, DidAll, Wrote, request_in, change_outcome, Reported};
+ghost use Rattle.access.specs.Walk.{block_in, blocks_in, answer_in, Did, DidAll, with_block, request_in, change_outcome, Reported};
 
-use super::reply::Written;
-use super::{ParameterError, Refused, address, copies, reply};
+use super::reply::Reply;
+use super::{ParameterError, Refused, address, copies};
 use blocks::reader::{Address, FIRST, SIZE, address_of};
 use blocks::{Head, Header};
 use catalogue::{Kind, Row};
@@ -25,15 +25,6 @@ pub struct Values {
     pub at: usize,
     pub size: usize,
     pub count: u16,
-}
-
-// What all addresses came to: where their blocks end, whether one is an error, and how many elements were stored. Each is told in every
-// case: beside an error the other addresses may have been stored.
-#[derive(Clone, Copy)]
-pub struct Changes {
-    pub next: usize,
-    pub error: bool,
-    pub stored: u16,
 }
 
 // Whether values of a format are of a parameter's type.
@@ -163,18 +154,13 @@ fn change_one(
 }
 
 // `40 00`, or the error.
-fn put_answer(out: &mut [u8], at: usize, d: Result<u16, ParameterError>) -> Written
-    requires { (at ≤ block_limit) × (at + 2 ≤ length out.old) }
-    ensures { Wrote out.old out.new at (answer_in d) result }
+fn put_answer(d: Result<u16, ParameterError>, reply: &mut Reply)
+    requires { reply.old.next + 2 ≤ block_limit }
+    ensures { reply.new ≡ with_block (answer_in d) reply.old }
 {
-    if let Err(error) = d {
-        return reply::put_failed(out, at, error);
-    }
-    out[at] = 0x40;
-    out[at + 1] = 0;
-    Written {
-        next: at + 2,
-        error: false,
+    match d {
+        Ok(_) => reply.put_empty(),
+        Err(error) => reply.put_failed(error),
     }
 }
 
@@ -195,31 +181,24 @@ fn head_here(block: &[u8], at: usize) -> Head
     }
 }
 
-// All n addresses, in order, each with its block of values; their answers after the header.
-pub(crate) fn change_all(part: &mut [u8], block: &[u8], n: usize, out: &mut [u8]) -> Changes
-    requires { (length (walk n block.now 4) ≡ n) × (length (blocks_in n block.now (4 + n * 6)) ≡ n) × (n ≤ 39) × (length out.old ≡ block_limit) }
-    ensures { DidAll (change_all (walk n block.now 4) (blocks_in n block.now (4 + n * 6)) part.old) part.new out.old out.new result }
+// All n addresses, in order, each with its block of values; their answers after the header. Answers how many elements were stored: beside
+// an error the other addresses may have been stored.
+pub(crate) fn change_all(part: &mut [u8], block: &[u8], n: usize, reply: &mut Reply) -> u16
+    requires { (length (walk n block.now 4) ≡ n) × (length (blocks_in n block.now (4 + n * 6)) ≡ n) × (n ≤ 39) × (reply.old.next ≡ 4) }
+    ensures { DidAll (change_all (walk n block.now 4) (blocks_in n block.now (4 + n * 6)) part.old) part.new reply.old reply.new result }
 {
     let mut at = FIRST;
     let mut from = at + n * SIZE;
-    let mut all = Changes {
-        next: FIRST,
-        error: false,
-        stored: 0,
-    };
+    let mut stored = 0;
     for _ in 0..n {
         let h = head_here(block, from);
         let d = change_one(part, address_of(block, at), block, from, h);
-        let w = put_answer(out, all.next, d);
-        all = Changes {
-            next: w.next,
-            error: w.error || all.error, // asked in this order (decision 97)
-            stored: all.stored + d.unwrap_or(0),
-        };
+        put_answer(d, reply);
+        stored += d.unwrap_or(0);
         at += SIZE;
         from = h.next;
     }
-    all
+    stored
 }
 
 // The answer to a readable change, whose header is `h`: 02 alone, or 82 and its blocks where an address failed. What was stored is kept as
@@ -228,20 +207,21 @@ pub(crate) fn answer(part: &mut [u8], block: &[u8], h: Header) -> Result<u16, Re
     requires { (readable block_limit request block.now ≡ true) × (h ≡ header_of block.now) × (h.identifier ≡ 1 → ⊥) }
     ensures { Reported (change_outcome (request_in block.now) part.old) part.new result }
 {
-    let mut body = [0u8; blocks::BLOCK_LIMIT];
+    let mut reply = Reply::new();
     let used_up = part::is_used_up(part);
     let open = if used_up { 0 } else { part.len() };
-    let d = change_all(&mut part[..open], block, h.count as usize, &mut body);
-    if d.stored != 0 {
+    let stored = change_all(&mut part[..open], block, h.count as usize, &mut reply);
+    if stored != 0 {
         if used_up {
             return Err(Refused::UsedUp);
         }
         versions::take_within(part, part::VERSIONS);
     }
-    if d.error {
-        reply::respond(part, h, 0x82, &mut body[..d.next]);
+    if reply.error {
+        reply.respond(part, h, 0x82);
     } else {
-        reply::respond(part, h, 0x02, &mut body[..FIRST]);
+        reply.next = FIRST;
+        reply.respond(part, h, 0x02);
     }
-    Ok(d.stored)
+    Ok(stored)
 }

@@ -1,38 +1,65 @@
 // The response, written part by part.
-ghost use Rattle.std.specs.Prelude.{◌≡◌, ◌++◌, ◌≤◌, length, drop};
+ghost use Rattle.std.specs.Prelude.{◌≡◌, ◌++◌, ◌+◌, ◌≤◌, drop, take};
 ghost use Rattle.blocks.specs.Block.{block_limit};
 ghost use Rattle.blocks.specs.Place.{header_bytes};
 ghost use Rattle.part.specs.Layout.{with_response};
-ghost use Rattle.access.specs.Address.{error_block};
-ghost use Rattle.access.specs.Walk.{Wrote};
+ghost use Rattle.access.specs.Address.{error_block, empty_block};
+ghost use Rattle.access.specs.Walk.{no_blocks, with_block};
 
 use super::ParameterError;
 use blocks::Header;
+use blocks::reader::FIRST;
 
-// Where the next block goes, and whether an error was written: both hold in every case, so that neither is an Option's.
-#[derive(Clone, Copy)]
-pub struct Written {
+// A response as far as it is written: its bytes, with room for the header first, where the next block goes, and whether one is an error.
+// An error block and `40 00` are written last, after the place is moved on (decision 97).
+#[derive(Drop)]
+pub struct Reply {
+    pub bytes: [u8; blocks::BLOCK_LIMIT],
     pub next: usize,
     pub error: bool,
 }
 
-// An error block: `44 01` and the error word.
-pub(crate) fn put_failed(out: &mut [u8], at: usize, error: ParameterError) -> Written
-    requires { at ≤ block_limit }
-    ensures { Wrote out.old out.new at (error_block error) result }
-{
-    blocks::writer::put_error(out, at, u16::from(error));
-    Written {
-        next: at + 4,
-        error: true,
+impl Reply {
+    // No block yet.
+    pub(crate) fn new() -> Reply
+        ensures { result ≡ no_blocks }
+    {
+        Reply {
+            bytes: [0u8; blocks::BLOCK_LIMIT],
+            next: FIRST,
+            error: false,
+        }
     }
-}
 
-// The response that waits: the request's header with another identifier, and what stands after it in `reply`.
-pub(crate) fn respond(part: &mut [u8], h: Header, identifier: u8, reply: &mut [u8])
-    requires { (4 ≤ length reply.old) × (length reply.old ≤ block_limit) }
-    ensures { part.new ≡ with_response (header_bytes (record { reference = h.reference; identifier = identifier; axis = h.axis; count = h.count }) ++ drop 4 reply.old) part.old }
-{
-    blocks::writer::put_header(reply, Header { identifier, ..h });
-    part::put_response(part, reply);
+    // An error block: `44 01` and the error word.
+    pub(crate) fn put_failed(&mut self, error: ParameterError)
+        requires { self.old.next ≤ block_limit }
+        ensures { self.new ≡ with_block (error_block error) self.old }
+    {
+        let at = self.next;
+        self.next = at + 4;
+        self.error = true;
+        blocks::writer::put_error(&mut self.bytes, at, u16::from(error));
+    }
+
+    // `40 00`: an address of a change that did not fail.
+    pub(crate) fn put_empty(&mut self)
+        requires { self.old.next + 2 ≤ block_limit }
+        ensures { self.new ≡ with_block empty_block self.old }
+    {
+        let at = self.next;
+        self.next = at + 2;
+        self.bytes[at] = 0x40;
+        self.bytes[at + 1] = 0;
+    }
+
+    // The response that waits: the request's header with another identifier, and the blocks after it.
+    pub(crate) fn respond(&mut self, part: &mut [u8], h: Header, identifier: u8)
+        requires { (4 ≤ self.old.next) × (self.old.next ≤ block_limit) }
+        ensures { part.new ≡ with_response (header_bytes (record { reference = h.reference; identifier = identifier; axis = h.axis; count = h.count }) ++ drop 4 (take self.old.next self.old.bytes)) part.old }
+    {
+        let out = &mut self.bytes[..self.next];
+        blocks::writer::put_header(out, Header { identifier, ..h });
+        part::put_response(part, out);
+    }
 }

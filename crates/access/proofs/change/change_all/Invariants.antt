@@ -8,5 +8,5 @@ abbrev pub invariant-loop : goal.invariant-loop
 invariant-loop l =
     record {
       place : l.at ≡ 4 + l.counter * 6;
-      changes : Changing l.block l.n l.initial.part l.initial.out l.part l.out l.at l.from (l.n - l.counter) l.all;
+      changes : Changing l.block l.n l.initial.part l.part l.initial.reply l.reply l.at l.from (l.n - l.counter) l.stored;
     }

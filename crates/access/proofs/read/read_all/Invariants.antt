@@ -8,5 +8,5 @@ abbrev pub invariant-loop-after : goal.invariant-loop-after
 invariant-loop-after l =
     record {
       place : l.at + l.after * 6 ≡ 4 + l.n * 6;
-      answers : Reading l.part l.block l.n l.initial.out l.out l.at l.used l.error l.after;
+      answers : Reading l.part l.block l.n l.initial.reply l.reply l.at l.after;
     }
