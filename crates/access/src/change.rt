@@ -1,4 +1,5 @@
-// A change (02): addresses stored whole or not at all, and the blocks that answer them.
+// A change (02): addresses stored whole or not at all, and the blocks that answer them. Row and first element stand one by one, as the
+// catalogue takes them; widening is written `as`, which a proof reads on through (decision 126).
 ghost use Rattle.std.specs.Prelude.{◌≡◌, true, ◌||◌, ◌+◌, ◌*◌, ◌≤◌, eqb, length, Some};
 ghost use Rattle.codes.specs.Code.{readable};
 ghost use Rattle.codes.specs.Number.{number_at, numbers_at};
@@ -164,7 +165,7 @@ fn put_answer(d: Result<u16, ParameterError>, reply: &mut Reply)
     }
 }
 
-// How the block of values at `at` begins: one stands there.
+// How the block of values at `at` begins: one stands there, so that nothing is tested again, as `block_at` would (decision 94).
 fn head_here(block: &[u8], at: usize) -> Head
     requires { (h : Head) × (block_at block.now at ≡ Some h) }
     ensures { block_at block.now at ≡ Some result }

@@ -14,7 +14,8 @@ fn copy_two(out: &mut [u8], at: usize, s: &[u8], from: usize)
     out[at + 1] = y;
 }
 
-// Copies n bytes that stand in `s` and fit in `out`. Two, the bytes of one word, are by far the most frequent.
+// Copies n bytes that stand in `s` and fit in `out`. Two, the bytes of one word, are by far the most frequent; by places, so that they are told
+// apart before a slice is cut.
 pub(crate) fn copy(out: &mut [u8], at: usize, s: &[u8], from: usize, n: usize)
     requires { (at + n ≤ length out.old) × (from + n ≤ length s.now) }
     ensures { out.new ≡ put out.old at (take n (drop from s.now)) }

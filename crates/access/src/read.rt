@@ -1,4 +1,5 @@
-// A request (01): the blocks of values and errors that answer its addresses.
+// A request (01): the blocks of values and errors that answer its addresses. Row, first element and their number stand one by one, as the
+// catalogue takes them; widening is written `as`, which a proof reads on through (decision 126).
 ghost use Rattle.std.specs.Prelude.{◌≡◌, true, ◌∷◌, ◌++◌, ◌+◌, ◌%◌, ◌≤◌, length, take, drop, replicate};
 ghost use Rattle.codes.specs.Code.{readable};
 ghost use Rattle.codes.specs.Number.{put};
