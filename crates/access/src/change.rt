@@ -48,7 +48,8 @@ fn value_here(k: Kind, s: &[u8], at: usize) -> i32
     }
 }
 
-// Whether all values are inside the limits of a row.
+// Whether all values are inside the limits of a row. By places, here and below: a value's width is known from its kind, and of a chunk it would be
+// asked again.
 fn all_inside(r: Row, block: &[u8], v: Values) -> bool
     requires { (v.at + v.count * v.size ≤ length block.now) × (v.size ≡ element_size r.kind) }
     ensures { result ≡ all_inside r (numbers_at v.size v.count block.now v.at) }
@@ -139,7 +140,7 @@ fn change_elements(
     store_whole(part, r, a.subindex, block, v)
 }
 
-// One address, with its block of values.
+// One address, with its block of values. What is asked of `h`, here, above and below, is of the bytes beside it, which no type holds.
 fn change_one(
     part: &mut [u8],
     a: Address,

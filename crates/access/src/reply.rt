@@ -11,7 +11,8 @@ use blocks::Header;
 use blocks::reader::FIRST;
 
 // A response as far as it is written: its bytes, with room for the header first, where the next block goes, and whether one is an error.
-// An error block and `40 00` are written last, after the place is moved on (decision 97).
+// An error block and `40 00` are written last, after the place is moved on (decision 97). That `next` is inside stays with the functions: a ghost
+// field of it would stand in `with_block` too, which says what a block adds and no more.
 #[derive(Drop)]
 pub struct Reply {
     pub bytes: [u8; blocks::BLOCK_LIMIT],

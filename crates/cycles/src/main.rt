@@ -49,7 +49,7 @@ fn answer(rt: &impl Print, label: &str, drive: Drive, input: Input) -> io::Resul
     Ok(end.drive)
 }
 
-// A cycle, what it answers, and the faults after it.
+// A cycle, what it answers, and the faults after it: apart from `answer`, as they stand before the end of its line.
 fn faults(rt: &impl Print, label: &str, drive: Drive, input: Input) -> io::Result<Drive> {
     let end = drive::cycle_lent(drive, input);
     rt.print(label)?;

@@ -51,7 +51,7 @@ impl<'a> Text<'a> {
         ensures value { result ≡ self.now.written }
         ensures bound { result ≤ length self.now.memory.now }
     {
-        self.written
+        self.written // the text's length, not the memory's
     }
 
     pub(crate) fn put_byte(&mut self, b: u8)

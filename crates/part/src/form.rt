@@ -64,7 +64,8 @@ fn situation_fits(s: &[u16]) -> bool
     true
 }
 
-// Each situation by itself. A function of its own, since few parts come to it, and `well_formed` then saves fewer registers.
+// Each situation by itself, by its place, as `words_at` takes it. A function of its own, since few parts come to it, and `well_formed` then saves
+// fewer registers.
 #[inline(never)]
 fn situations_fit(part: &Part) -> bool
     ensures { result ≡ proper_faults (faults_of part.now) }

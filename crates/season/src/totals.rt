@@ -40,7 +40,7 @@ pub(crate) fn of_return(r: Returned) -> [u64; EACH]
     [0, 0, 0, 0, 0, 0, 0, 0, 0, u64::from(r.stored)]
 }
 
-// Each total with its count added; none where one would reach 2^64.
+// Each total with its count added; none where one would reach 2^64. The totals are a window of those of all farms, and so a slice.
 fn sums(totals: &[u64], counts: &[u64; EACH]) -> Option<[u64; EACH]>
     requires { length totals.now ≡ 10 }
     ensures { MatchOption result (reaches (plus totals.now counts.now) ≡ true) (λ s. (reaches (plus totals.now counts.now) ≡ false) × (s ≡ plus totals.now counts.now)) }
