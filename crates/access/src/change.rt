@@ -184,7 +184,7 @@ fn head_here(block: &[u8], at: usize) -> Head
 }
 
 // All n addresses, in order, each with its block of values; their answers after the header. Answers how many elements were stored: beside
-// an error the other addresses may have been stored.
+// an error the other addresses may have been stored. Where the next block begins is known from this one alone.
 pub(crate) fn change_all(part: &mut [u8], block: &[u8], n: usize, reply: &mut Reply) -> u16
     requires { (length (walk n block.now 4) ≡ n) × (length (blocks_in n block.now (4 + n * 6)) ≡ n) × (n ≤ 39) × (reply.old.next ≡ 4) }
     ensures { DidAll (change_all (walk n block.now 4) (blocks_in n block.now (4 + n * 6)) part.old) part.new reply.old reply.new result }

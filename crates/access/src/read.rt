@@ -95,7 +95,8 @@ fn read_one(part: &[u8], a: Address, after: usize, reply: &mut Reply)
     }
 }
 
-// The blocks for n addresses, in order, after the header.
+// The blocks for n addresses, in order, after the header. By places: as a reader's item each costs some 20 instructions
+// more.
 pub(crate) fn read_all(part: &[u8], block: &[u8], n: usize, reply: &mut Reply)
     requires { (length (walk n block.now 4) ≡ n) × (n ≤ 39) × (reply.old.next ≡ 4) }
     ensures { reply.new ≡ with_blocks (read_blocks part.now 4 (walk n block.now 4)) reply.old }

@@ -49,7 +49,8 @@ fn answer_size(f: u8, n: u8) -> usize
     (bare + 3) / 2 * 2
 }
 
-// Whether each block of a readable response has as many values as its address in a readable request asks. Both have `count` of them.
+// Whether each block of a readable response has as many values as its address in a readable request asks. Both have `count` of them. Where
+// the next block begins is known from this one alone.
 fn counts_fit(request: &[u8], response: &[u8], count: u8) -> bool
     requires { BothRead request.now response.now × BothCount request.now response.now count }
     ensures { AsRead request.now response.now (λ q r. result ≡ counts_fit q.addresses r.blocks) }

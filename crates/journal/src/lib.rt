@@ -60,7 +60,8 @@ fn put_played(station: &mut [u8], bytes: &[u8], kind: Option<Kind>, text: &mut T
     }
 }
 
-// Plays a record on the station, and writes its line; anything else is bad.
+// Plays a record on the station, and writes its line; anything else is bad. It answers the line's length: the rest of the memory stays as it
+// was, which `line_after` promises.
 #[tactic(auto, using(crate::proofs::Records::record_kinds))]
 pub fn play(station: &mut [u8], bytes: &[u8], line: &mut [u8; LINE]) -> Played
     ensures line_after { line.new ≡ record_line bytes.now station.old ++ drop result.length line.old }

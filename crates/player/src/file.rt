@@ -1,4 +1,5 @@
-// The records of a file, one after the other.
+// The records of a file, one after the other. What runs, the source and its name stand one by one: a method takes of them what it prints on,
+// reads or names.
 use super::{Player, Stop};
 use std::io::Read;
 

@@ -30,7 +30,7 @@ fn waiting(part: &Part) -> &[u8] {
     )
 }
 
-// Works a block, prints what it comes to, and fetches the response.
+// Works a block, prints what it comes to, and fetches the response. Label, part and address stand one by one, each said once at the call.
 fn work(rt: &impl Print, label: &str, part: &mut Part, block: &[u8]) -> io::Result<()> {
     let (number, stored) = match access::work(part, AXIS, block) {
         Ok(stored) => (0, stored),

@@ -51,7 +51,8 @@ fn put_end(text: &mut Text, last: Result<(), Stop>)
     }
 }
 
-// A report's text, by the totals and by how the last record came out. Answers how long it is.
+// A report's text, by the totals and by how the last record came out. Answers how long it is: the rest of the memory stays as it was, which
+// `text_after` promises.
 pub fn put_report(totals: &[u64; COUNTS], last: Result<(), Stop>, text: &mut [u8; TEXT]) -> usize
     ensures text_after { text.new ≡ report_text totals.now last ++ drop result text.old }
     ensures value { (result ≡ length (report_text totals.now last)) × (result ≤ 3733) }

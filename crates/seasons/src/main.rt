@@ -70,7 +70,8 @@ fn print_turn(rt: &impl Print, turn: Result<(), Stop>) -> io::Result<()> {
     }
 }
 
-// Counts a record and prints how that came out, and farm 1's counts after it.
+// Counts a record and prints how that came out, and farm 1's counts after it. What is lent and what is printed stand one by one, each said once
+// at the call.
 fn count(
     rt: &impl Print,
     label: &str,

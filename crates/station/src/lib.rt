@@ -149,7 +149,7 @@ fn cycle_of(station: &mut [u8], axis: u32, sent: Sent) -> Result<CycleDone, Refu
     part_cycle::cycle_on(&mut station[place], axis as u8, sent)
 }
 
-// A frame of a farm, answered in the reply memory.
+// A frame of a farm, answered in the reply memory. Station, farm, frame and reply stand one by one, here and below, as C hands them.
 pub fn frame(station: &mut [u8], farm: u32, f: &[u8], reply: &mut [u8]) -> Framed
     ensures reply_after { to_frame result reply.new ≡ answer kinds (frame farm f.now reply.old) station.old }
     ensures station_after { station.new ≡ after kinds (frame farm f.now reply.old) station.old }

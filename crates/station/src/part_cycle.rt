@@ -8,7 +8,7 @@ ghost use Rattle.station.specs.Inner.{told};
 use super::{CycleDone, Cycled, Refusal, Sent};
 use drive::{Drive, Input, Motion, N2, Output};
 
-// What a cycle is given, with the axis's parameters.
+// What a cycle is given, with the axis's parameters. The flags are taken apart as `input_of` of specs/ says it.
 fn input_of(part: &[u8], sent: Sent) -> Input
     ensures { result ≡ input_of sent part.now }
 {
