@@ -3,6 +3,7 @@ ghost use Rattle.std.specs.Prelude.{◌≡◌, ◌+◌, ◌≤◌, length, drop}
 ghost use Rattle.codes.specs.Code.{got};
 ghost use Rattle.blocks.specs.Request.{address};
 ghost use Rattle.blocks.specs.Place.{address_in, step_at, addresses_from};
+ghost use Rattle.blocks.specs.Reader.{Steps};
 ghost use Rattle.std.specs.Iterator.{YieldsFirst, item_count};
 
 // Where the first address stands.
@@ -53,7 +54,7 @@ pub fn address_of(block: &[u8], at: usize) -> Address
     address_here(block, at)
 }
 
-// The address that stands at a place of a block, and the place after it: what crates above walk with.
+// The address that stands at a place of a block, and the place after it.
 pub fn address_at(block: &[u8], at: usize) -> Option<(Address, usize)>
     ensures { result ≡ step_at block.now at }
 {
@@ -89,7 +90,7 @@ impl<'a> Reader<'a> {
 impl<'a> Iterator for Reader<'a> {
     type Item = Address;
 
-    ghost next_gives = { YieldsFirst (λ r. addresses_from r.block.now r.at) };
+    ghost next_gives = { λ before item after. YieldsFirst (λ r. addresses_from r.block.now r.at) before item after × Steps before item after };
 
     ghost remaining = { item_count (λ r. addresses_from r.block.now r.at) };
 
