@@ -1,6 +1,6 @@
 -- Each law of specs/Laws.antt that no other proof uses whole, at work on requests that are written out: one that is made weaker fails here.
 -- What a law concludes is written out too, and nothing of that is unfolded.
-use Rattle.access.specs.declared.error.ParameterError.TheVariants.{NoSuchParameter}
+use Rattle.access.specs.declared.error.ParameterError.TheVariants.{NoSuchParameter, ReadOnly, OutsideLimits, PastTheEnd, NoArray, WrongType, NoDescription, NoText, NoRoom, BadAddress, WrongCount}
 use Rattle.access.specs.declared.error.ParameterError.{ParameterError}
 use Rattle.std.specs.Prelude.{Option, Some, None, Result, Ok, Err}
 use mathlib.Core.Path.{◌≡◌, refl, sym, ap, ◌∙◌}
@@ -30,6 +30,23 @@ use Rattle.access.specs.Laws.{blocks_of, Names, StoredBy, Stored, Storable, Allo
 use Rattle.access.proofs.Answers.{answers_header, one_each, answers_blocks, answers_identifier, failure_answered}
 use Rattle.access.proofs.Keeps.{read_keeps, only_stored_changes, versions_follow}
 use Rattle.access.proofs.There.{answers_each, stored_is_there, whole_or_none, answered_exactly, counts_stored, read_is_there}
+
+-- an error block with its number, and the block of each error: what definition and code call it is written as these numbers
+abbrev numbered : ℕ → Block
+numbered n = record { format = 0x44; values = n ∷ [] }
+
+errors_numbered : (error_block NoSuchParameter ≡ numbered 0x00)
+    × (error_block ReadOnly ≡ numbered 0x01)
+    × (error_block OutsideLimits ≡ numbered 0x02)
+    × (error_block PastTheEnd ≡ numbered 0x03)
+    × (error_block NoArray ≡ numbered 0x04)
+    × (error_block WrongType ≡ numbered 0x05)
+    × (error_block NoDescription ≡ numbered 0x09)
+    × (error_block NoText ≡ numbered 0x0F)
+    × (error_block NoRoom ≡ numbered 0x15)
+    × (error_block BadAddress ≡ numbered 0x16)
+    × (error_block WrongCount ≡ numbered 0x18)
+errors_numbered = (refl, refl, refl, refl, refl, refl, refl, refl, refl, refl, refl)
 
 -- for changes: level marks 1 and 2, at their limits, and 9900
 marks : Address
@@ -165,7 +182,7 @@ module _ (p : List ℕ) where
   succeeds = refl
 
   -- AnswersIdentifier and AnswersBlocks: 81 and its error, 02 alone
-  with_error : ((worked read_nothing p).response.identifier ≡ 0x81) × ((worked read_nothing p).response.blocks ≡ error_block NoSuchParameter ∷ [])
+  with_error : ((worked read_nothing p).response.identifier ≡ 0x81) × ((worked read_nothing p).response.blocks ≡ numbered 0x00 ∷ [])
   unfolding read_nothing nowhere has_error read_block checked find_of rows
   with_error = (answers_identifier read_nothing p read_fits, answers_blocks read_nothing p)
 
