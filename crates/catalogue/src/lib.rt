@@ -1,9 +1,9 @@
 // The catalogue of an axis's parameters, and their elements in the bytes of a part.
 #![tactic(auto)]
 
-ghost use Rattle.std.specs.Prelude.{◌≡◌, ◌&&◌};
+ghost use Rattle.std.specs.Prelude.{◌≡◌, ◌&&◌, take, drop};
 ghost use Rattle.std.specs.Int.Signed.{le_z};
-ghost use Rattle.catalogue.specs.Table.{element_size, row_at, find_of};
+ghost use Rattle.catalogue.specs.Table.{element_size, rows, row_at, find_in, find_of};
 ghost use Rattle.catalogue.specs.Element.{size_code, type_code, value_of, inside, element_place, element_of, put_element, fresh_of};
 
 // The type of a parameter's elements.
@@ -278,8 +278,8 @@ const NO_ROW: Row = Row {
     offset: 0,
 };
 
-// The rows, sorted by their numbers.
-const TABLE: [Row; ROWS] = [
+// The rows, sorted by their numbers. A static: a constant of rows is built anew at every look-up.
+static TABLE: [Row; ROWS] = [
     ROW_930, ROW_944, ROW_947, ROW_965, ROW_9900, ROW_9901, ROW_10100, ROW_10101, ROW_10102,
     ROW_10103, ROW_10111, ROW_30001, ROW_30002, ROW_30003, ROW_30004,
 ];
@@ -292,28 +292,113 @@ pub fn row_at(i: usize) -> Row
     if i < ROWS { TABLE[i] } else { NO_ROW }
 }
 
-// The row of a parameter number, which the compiler comes to by halving the numbers.
-#[tactic(auto, unfolding(crate::specs::Table::find_of, crate::specs::Table::rows))]
+// What the first quarter of the table, from 930 on, has of a parameter number. Each quarter is written out, with the upper of two rows
+// first: by a loop, by one function that is handed the rows, or with the lower row first, some numbers cost more than by a walk.
+#[tactic(auto, unfolding(crate::specs::Table::rows))]
+fn first_quarter(pnu: u16) -> Option<Row>
+    ensures { result ≡ find_in (take 3 rows) pnu }
+{
+    if pnu < 944 {
+        if pnu == 930 { Some(ROW_930) } else { None }
+    } else {
+        if pnu == 947 {
+            Some(ROW_947)
+        } else if pnu == 944 {
+            Some(ROW_944)
+        } else {
+            None
+        }
+    }
+}
+
+// From 965 on.
+#[tactic(auto, unfolding(crate::specs::Table::rows))]
+fn second_quarter(pnu: u16) -> Option<Row>
+    ensures { result ≡ find_in (take 4 (drop 3 rows)) pnu }
+{
+    if pnu < 9901 {
+        if pnu == 9900 {
+            Some(ROW_9900)
+        } else if pnu == 965 {
+            Some(ROW_965)
+        } else {
+            None
+        }
+    } else {
+        if pnu == 10100 {
+            Some(ROW_10100)
+        } else if pnu == 9901 {
+            Some(ROW_9901)
+        } else {
+            None
+        }
+    }
+}
+
+// From 10101 on.
+#[tactic(auto, unfolding(crate::specs::Table::rows))]
+fn third_quarter(pnu: u16) -> Option<Row>
+    ensures { result ≡ find_in (take 4 (drop 7 rows)) pnu }
+{
+    if pnu < 10103 {
+        if pnu == 10102 {
+            Some(ROW_10102)
+        } else if pnu == 10101 {
+            Some(ROW_10101)
+        } else {
+            None
+        }
+    } else {
+        if pnu == 10111 {
+            Some(ROW_10111)
+        } else if pnu == 10103 {
+            Some(ROW_10103)
+        } else {
+            None
+        }
+    }
+}
+
+// From 30001 on.
+#[tactic(auto, unfolding(crate::specs::Table::rows))]
+fn last_quarter(pnu: u16) -> Option<Row>
+    ensures { result ≡ find_in (drop 11 rows) pnu }
+{
+    if pnu < 30003 {
+        if pnu == 30002 {
+            Some(ROW_30002)
+        } else if pnu == 30001 {
+            Some(ROW_30001)
+        } else {
+            None
+        }
+    } else {
+        if pnu == 30004 {
+            Some(ROW_30004)
+        } else if pnu == 30003 {
+            Some(ROW_30003)
+        } else {
+            None
+        }
+    }
+}
+
+// The row of a parameter number, by halving the sorted table.
 pub fn find(pnu: u16) -> Option<Row>
     ensures { result ≡ find_of pnu }
 {
-    match pnu {
-        930 => Some(ROW_930),
-        944 => Some(ROW_944),
-        947 => Some(ROW_947),
-        965 => Some(ROW_965),
-        9900 => Some(ROW_9900),
-        9901 => Some(ROW_9901),
-        10100 => Some(ROW_10100),
-        10101 => Some(ROW_10101),
-        10102 => Some(ROW_10102),
-        10103 => Some(ROW_10103),
-        10111 => Some(ROW_10111),
-        30001 => Some(ROW_30001),
-        30002 => Some(ROW_30002),
-        30003 => Some(ROW_30003),
-        30004 => Some(ROW_30004),
-        _ => None,
+    if pnu < 10101 {
+        if pnu < 965 {
+            first_quarter(pnu)
+        } else {
+            second_quarter(pnu)
+        }
+    } else {
+        if pnu < 30001 {
+            third_quarter(pnu)
+        } else {
+            last_quarter(pnu)
+        }
     }
 }
 
