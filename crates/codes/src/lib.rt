@@ -68,7 +68,11 @@ pub fn put_number(out: &mut [u8], at: usize, w: usize, x: u32)
 pub fn put_bytes(out: &mut [u8], at: usize, from: &[u8])
     ensures { out.new ≡ put out.old at from.now }
 {
-    if stands(out.len(), at, from.len()) {
-        out[at..at + from.len()].copy_from_slice(from);
+    if !stands(out.len(), at, from.len()) {
+        return;
+    }
+    // By places: copied by the library, the archive would want `memmove` of its host.
+    for (i, &b) in from.iter().enumerate() {
+        out[at + i] = b;
     }
 }
