@@ -88,8 +88,7 @@ pub fn fresh() -> Drive
     }
 }
 
-// What a drive record holds beside its faults, and the whole of it with faults. Each is a field or a struct's text, and nothing here calls
-// them; they stay, as public and named in the pages.
+// What a drive record holds beside its faults, and the whole of it with faults.
 pub fn motion_of(d: Drive) -> Motion
     ensures { result ≡ motion_of d }
 {
@@ -175,12 +174,9 @@ pub fn cycle(d: Drive, i: Input) -> CycleEnd
     let acknowledged = faults::acknowledges(b, Word::from(last), i.fault, d.faults); // step 2
     let left = faults::after_ack(acknowledged, d.faults);
     let f = faults::after_code(i.fault, left); // step 3
-    let end = move_on(d.motion, !f.is_empty(), acknowledged, i); // steps 1 and 4 to 7
+    let end = move_on(motion_of(d), !f.is_empty(), acknowledged, i); // steps 1 and 4 to 7
     CycleEnd {
-        drive: Drive {
-            motion: end.motion,
-            faults: f,
-        },
+        drive: with_faults(end.motion, f),
         output: end.output,
     }
 }

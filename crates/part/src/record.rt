@@ -103,6 +103,6 @@ pub fn store_motion(part: &mut [u8], m: Motion)
 pub fn store(part: &mut [u8], d: Drive)
     ensures { part.new ≡ put_drive d part.old }
 {
-    store_motion(part, d.motion);
+    store_motion(part, drive::motion_of(d));
     put_faults(part, d.faults);
 }

@@ -6,7 +6,7 @@ ghost use Rattle.station.specs.Cycle.{input_of, refused_cycle, cycled, cycle_ans
 ghost use Rattle.station.specs.Inner.{told};
 
 use super::{CycleDone, Cycled, Refusal, Sent};
-use drive::{Drive, Input, Motion, N2, Output};
+use drive::{Input, Motion, N2, Output};
 
 // What a cycle is given, with the axis's parameters. The flags are taken apart as `input_of` of specs/ says it.
 fn input_of(part: &[u8], sent: Sent) -> Input
@@ -69,8 +69,8 @@ pub(crate) fn cycle_on(part: &mut [u8], k: u8, sent: Sent) -> Result<CycleDone, 
     if drive::is_quiet(motion.word, empty, input) { // as nearly every cycle is
         return Ok(quiet_cycle(part, motion, !empty, input));
     }
-    let faults = part::load_faults(part);
-    let done = drive::cycle_lent(Drive { motion, faults }, input);
+    let before = drive::with_faults(motion, part::load_faults(part));
+    let done = drive::cycle_lent(before, input);
     part::store(part, done.drive);
     Ok(answered(done.output))
 }

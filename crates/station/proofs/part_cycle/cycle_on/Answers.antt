@@ -26,5 +26,5 @@ pub returns : goal.returns
 returns c =
     let a = c.args in
     let o = cycles a.k a.sent a.part.now (sym c.well_formed-2.ensures ∙ c.if-not-well_formed.false) c.if-sent-gt3.false in
-    let e : c.cycle_lent-done.result ≡ cycle_of (drive_of a.part.now) (input_of a.sent a.part.now) = c.cycle_lent-done.ensures ∙ ap₂ cycle_of (ap₂ with_faults c.load_motion-motion.ensures c.load_faults-faults.ensures ∙ loaded_whole a.part.now) c.input_of-input.ensures in
+    let e : c.cycle_lent-done.result ≡ cycle_of (drive_of a.part.now) (input_of a.sent a.part.now) = c.cycle_lent-done.ensures ∙ ap₂ cycle_of (c.with_faults-before.ensures ∙ (ap₂ with_faults c.load_motion-motion.ensures c.load_faults.ensures ∙ loaded_whole a.part.now)) c.input_of-input.ensures in
     record { value = c.answered.ensures ∙ (ap (λ (x : CycleEnd). cycled x.output) e ∙ o.0); part_after = c.store.ensures ∙ (ap (λ (x : CycleEnd). put_drive x.drive a.part.now) e ∙ o.1) }
