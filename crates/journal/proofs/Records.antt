@@ -1,13 +1,13 @@
 -- What is known of bytes by whether they are a record.
 use mathlib.Core.Path.{◌≡◌, refl, sym, subst, ◌∙◌, ap}
-use mathlib.Core.Bool.{Bool, true, false, cond, ◌&&◌, ◌||◌, true≢false, and-true, and_assoc, and-eq-true_iff}
+use mathlib.Core.Bool.{Bool, true, false, cond, ◌&&◌, ◌||◌, true≢false, and-eq-true_iff}
 use mathlib.Core.List.{List, [], ◌∷◌, append_assoc}
 use Prim.Native.Nat.{ℕ, zero, suc, ◌+◌, ◌≤◌}
 use native.Mathlib.Omega.{arith}
 use lib.Dec.{eqb, leb}
 use lib.ListN.{length, get_or, drop}
 use lib.Seq.{drop-append-add}
-use borrow.Author.Tests.{eqb-true, eqb-false, leb-true, eq-eqb, ne_eqb, lt-ltb}
+use borrow.Author.Tests.{eqb-true, leb-true, eq-eqb, ne_eqb, lt-ltb}
 use Rattle.codes.specs.Number.{number_at}
 use Rattle.drive.specs.Faults.{zeros}
 use Rattle.station.specs.Parts.{part_of, station_refusal}
@@ -18,8 +18,6 @@ use Rattle.station.proofs.Tests.{one_of}
 use borrow.Table.Steps.{cases}
 use Rattle.journal.specs.Line.{record_length, cycle_record, frame_record, return_record, cycle_call, frame_length, frame_call, return_call, holds_frame, is_merged, is_cycle, is_frame, is_return, is_record, call_of, line_of, bad_line, record_line, record_after}
 use Rattle.std.specs.Prelude.{Option, Some, None}
-use Rattle.std.specs.List.{fold}
-use lib.Bits.{bit_or, or_add_and, and_le_r}
 use Rattle.std.specs.Option.{is_some}
 use Rattle.journal.specs.declared.record.Kind.{Kind}
 use Rattle.journal.specs.declared.record.Kind.TheVariants.{Cycle, Frame, Return}
