@@ -50,26 +50,19 @@ struct Player {
     output: Output,
 }
 
-impl Player {
-    // A job that nothing is done of yet.
-    fn new(job: Job) -> Player {
-        let mut station = [0; STATION];
-        station::fresh(&mut station).unwrap();
-        Player {
-            job,
-            station,
-            totals: [0; COUNTS],
-            line: [0; LINE],
-            window: Window::new(),
-            output: Output::new(),
-        }
-    }
-}
-
 // Does a job with the journals that the arguments name. It promises to be safe and to end, and no more: no contract can say what
 // is read or written. What a record does to the station, its line and its counts are promised where it is worked, in `journal` and `season`.
 pub fn run(rt: &HostRuntime, job: Job) {
-    let mut player = Player::new(job);
+    // It is made where it stays, and its parts in the place of their calls: handed over by a call it would stand on the stack twice.
+    let mut player = Player {
+        job,
+        station: [0; STATION],
+        totals: [0; COUNTS],
+        line: [0; LINE],
+        window: Window::new(),
+        output: Output::new(),
+    };
+    station::fresh(&mut player.station).unwrap();
     let played = player.play_arguments(rt);
     player.finish(rt, played);
 }

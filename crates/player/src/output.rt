@@ -5,7 +5,7 @@ use super::Stop;
 use super::said::fail;
 
 // Bytes of output that are collected before they are written.
-const OUT: usize = 16384;
+pub(crate) const OUT: usize = 16384;
 
 // Writes text, all of it.
 pub(crate) fn write<R: Print + Eprint>(rt: &R, text: &[u8]) -> Result<(), Stop> {
@@ -16,13 +16,14 @@ pub(crate) fn write<R: Print + Eprint>(rt: &R, text: &[u8]) -> Result<(), Stop> 
 // The output that is collected: as many bytes as are used. Fixed memory, as nothing here allocates.
 #[derive(Drop)]
 pub(crate) struct Output {
-    bytes: [u8; OUT],
-    used: usize,
+    pub(crate) bytes: [u8; OUT],
+    pub(crate) used: usize,
     ghost inside: { used ≤ 16384 },
 }
 
 impl Output {
     // Nothing is collected yet.
+    #[inline(always)]
     pub(crate) fn new() -> Output
         ensures { result.used ≡ 0 }
     {

@@ -6,22 +6,23 @@ use super::said::fail;
 use std::io::Read;
 
 // Bytes of a file that are read and not worked yet, at most.
-const INPUT: usize = 65536;
+pub(crate) const INPUT: usize = 65536;
 
 // What of a file is read and not worked yet, from `start` to `end`, and whether more may come: bytes may be left where none comes. Fixed
 // memory, as nothing here allocates.
 #[derive(Drop)]
 pub(crate) struct Window {
-    bytes: [u8; INPUT],
-    start: usize,
-    end: usize,
-    open: bool,
+    pub(crate) bytes: [u8; INPUT],
+    pub(crate) start: usize,
+    pub(crate) end: usize,
+    pub(crate) open: bool,
     ghost ordered: { start ≤ end },
     ghost inside: { end ≤ 65536 },
 }
 
 impl Window {
     // Nothing of a file is read yet.
+    #[inline(always)]
     pub(crate) fn new() -> Window
         ensures { (result.start ≡ 0) × (result.end ≡ 0) }
     {
