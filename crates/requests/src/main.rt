@@ -86,12 +86,13 @@ fn bytes_of(a: Address) -> [u8; ADDRESS] {
     [a.attribute, a.elements, p, q, i, j]
 }
 
-// The same address n times, from `at` on; not where the block ends before it does.
+// The same address n times, from `at` on; what the block has no room for is cut.
 fn put_addresses(block: &mut Block, at: usize, n: u8, a: Address)
     requires { at ≤ 240 }
 {
-    for place in block[at..].chunks_exact_mut(ADDRESS).take(usize::from(n)) {
-        place.copy_from_slice(&bytes_of(a));
+    for place in block[at..].chunks_mut(ADDRESS).take(usize::from(n)) {
+        let room = place.len().min(ADDRESS);
+        place[..room].copy_from_slice(&bytes_of(a)[..room]);
     }
 }
 
