@@ -39,4 +39,4 @@ unfolding parameter_bytes rows last_at
 returns c =
     let p = c.args.part.now in
     let n = length c.waiting.result.now in
-    c.is_clear-2.ensures ∙ unused_is p (omega arith) n (response_at + n) (ap length c.waiting.ensures ∙ waiting_bytes p (omega arith)) refl
+    c.is_clear-2.ensures ∙ unused_is p (omega arith) n _ (ap length c.waiting.ensures ∙ waiting_bytes p (omega arith)) (omega arith)
