@@ -5,7 +5,7 @@ use super::Stop;
 use super::said::fail;
 
 // Bytes of output that are collected before they are written.
-pub(crate) const OUT: usize = 16384;
+const OUT: usize = 16384;
 
 // Writes text, all of it.
 pub(crate) fn write<R: Print + Eprint>(rt: &R, text: &[u8]) -> Result<(), Stop> {
@@ -16,8 +16,8 @@ pub(crate) fn write<R: Print + Eprint>(rt: &R, text: &[u8]) -> Result<(), Stop> 
 // The output that is collected: as many bytes as are used. Fixed memory, as nothing here allocates.
 #[derive(Drop)]
 pub(crate) struct Output {
-    pub(crate) bytes: [u8; OUT],
-    pub(crate) used: usize,
+    bytes: [u8; OUT],
+    used: usize,
     ghost inside: { used ≤ 16384 },
 }
 

@@ -6,16 +6,16 @@ use super::said::fail;
 use std::io::Read;
 
 // Bytes of a file that are read and not worked yet, at most.
-pub(crate) const INPUT: usize = 65536;
+const INPUT: usize = 65536;
 
 // What of a file is read and not worked yet, from `start` to `end`, and whether more may come: bytes may be left where none comes. Fixed
 // memory, as nothing here allocates.
 #[derive(Drop)]
 pub(crate) struct Window {
-    pub(crate) bytes: [u8; INPUT],
-    pub(crate) start: usize,
-    pub(crate) end: usize,
-    pub(crate) open: bool,
+    bytes: [u8; INPUT],
+    start: usize,
+    end: usize,
+    open: bool,
     ghost ordered: { start ≤ end },
     ghost inside: { end ≤ 65536 },
 }
