@@ -12,6 +12,8 @@ use lib.Seq.{take-suc, drop-drop}
 use lib.IntN.{ℤ, pos, negsuc, nat_abs}
 use lib.Signed.{lt_z}
 use borrow.Author.Tests.{lt-ltb, le-ltb}
+use borrow.Rule.Slice.PartMut.{mid_of, put_mid, same_len_mid}
+use Rattle.std.proofs.lemmas.Slice.{take-put_mid, drop-put_mid}
 use Rattle.journal.specs.declared.writing.Text.{Text}
 use Rattle.journal.specs.Text.{digit, decimal_in, decimal, signed}
 use Rattle.journal.specs.Written.{room, Wrote, WroteIfFits}
@@ -43,6 +45,20 @@ within w h = record { same_memory = w.same_memory; text = w.text; left = w.left;
 -- what is written where it fits, where there is room for it
 pub fitted : (n : ℕ) {bs : List ℕ} {t u : Text} → WroteIfFits bs t u → length bs ≤ n → room n t → Wrote n bs t u
 fitted n w short space = within (w.fits (omega arith)) short
+
+-- bytes that take the place of as many, from w on
+pub put_there : (w n : ℕ) (m ys bs : List ℕ) → w + n ≤ length m → ys ≡ bs → n ≡ length bs → length ys ≡ length (mid_of w (w + n - w) m)
+    → (take (w + n) (put_mid w (w + n - w) m ys) ≡ take w m ++ bs)
+    × (drop (w + n) (put_mid w (w + n - w) m ys) ≡ drop (length bs) (drop w m))
+    × (length (put_mid w (w + n - w) m ys) ≡ length m)
+put_there w n m ys bs room all size same =
+    let k = w + n - w in
+    let low : w ≤ length m = omega arith in
+    let long : length ys ≡ n = ap length all ∙ sym size in (
+      take-put_mid w k m ys (w + n) (omega arith) low ∙ ap (λ (l : List ℕ). take w m ++ l) all,
+      drop-put_mid w k m ys (w + n) (omega arith) low (omega arith) ∙ (sym (drop-drop n w m) ∙ ap (λ (i : ℕ). drop i (drop w m)) size),
+      same_len_mid w k m ys same,
+    )
 
 -- all of the memory, of a text that nothing stood before
 pub whole : {n : ℕ} {bs : List ℕ} {t u : Text} → Wrote n bs t u → t.written ≡ 0 → u.memory.now ≡ bs ++ drop u.written t.memory.now
