@@ -1,4 +1,4 @@
--- A reader of addresses, from one call to the next.
+-- Document 01, "A reader that keeps the block and its place together": from one address to the next.
 use Rattle.std.specs.Prelude.{◌≡◌, Option, Some, None, MatchOption}
 use Rattle.blocks.specs.declared.reader.Address.{Address}
 use Rattle.blocks.specs.declared.reader.Reader.{Reader}
